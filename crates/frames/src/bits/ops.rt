@@ -110,7 +110,8 @@ impl Bits {
         ensures { λ r. ⌜ r ≡ isOdd (overlap (places (now (self .entry))) (places (now (row .entry) .bits))) ⌝ }
     {
         let other = row.bits;
-        let both = (self.first & other.first).count_ones() + (self.second & other.second).count_ones();
+        let both = (self.first & other.first).count_ones()
+            + (self.second & other.second).count_ones();
         both % 2 == 1
     }
 
