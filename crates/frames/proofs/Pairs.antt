@@ -13,6 +13,7 @@ use lib.Ieee.Fits.{down-pos}
 use lib.Ieee.Exact.{HasValue}
 use lib.Ieee.Nearest.{div-same}
 use lib.Ieee.Scale.{grid}
+use Rattle.std.proofs.shelf.Tests.{and-parts}
 use Rattle.frames.specs.Cells.{within, isLevel, isSum, weightOf}
 use Rattle.frames.specs.Near.{signed, exactSum, Near}
 use Rattle.frames.proofs.Rounds.{grid-le, grid-off, round-value}
@@ -143,5 +144,5 @@ pair-near x y r =
     let e : weightOf (add binary32 x y) ≡ w = weight-of (add binary32 x y) (r .minus) (r .units) (r .is) in
     subst (Near x y) (sym e) (omega arith, omega arith)
 
-pub from-tests : (x y : Float) → true ≡ isLevel x → true ≡ isLevel y → T (fits binary32 x) → T (fits binary32 y) → Rounded x y
-from-tests x y p q f g = rounded x y (subst T p tt) (subst T q tt) f g
+pub from-test : (x y : Float) → true ≡ (isLevel x && isLevel y) → T (fits binary32 x) → T (fits binary32 y) → Rounded x y
+from-test x y e f g = let p = and-parts (isLevel x) (isLevel y) (sym e) in rounded x y (subst T (sym (p .0)) tt) (subst T (sym (p .1)) tt) f g

@@ -8,8 +8,8 @@ use Rattle.frames.specs.declared.tables.RowTable.{RowTable}
 
 -- the rows, in order
 abbrev pub tableRows : RowTable → List (List Bool)
-tableRows t = map (rowOf (t .«row_len»)) (vec-items (t .halves))
+tableRows t = map (rowOf (t .len)) (vec-items (t .halves))
 
 -- the length, which every row has, and the rows
 abbrev pub tableOf : RowTable → ℕ × List (List Bool)
-tableOf t = (t .«row_len», tableRows t)
+tableOf t = (t .len, tableRows t)

@@ -1,5 +1,6 @@
 // Readings of the tape, and the cells that they give.
 ghost use mathlib.Core.Path.{_≡_};
+ghost use mathlib.Core.Bool.{true};
 ghost use lib.Dec.{T};
 ghost use lib.Ieee.{binary32, fits};
 ghost use Rattle.std.specs.Slices.{found};
@@ -48,12 +49,21 @@ fn weigh(y: f32) -> Cell
     }
 }
 
+// Whether both levels of a pair are numbers of magnitude at most 127.
+fn are_levels(p: Levels) -> bool
+    ensures value { λ r. ⌜ r ≡ isGood (Reading.Pair p) ⌝ }
+    ensures left_held { λ r. ⌜ (r ≡ true → T (fits binary32 (p .left))) ⌝ }
+    ensures right_held { λ r. ⌜ (r ≡ true → T (fits binary32 (p .right))) ⌝ }
+{
+    is_level(p.left) && is_level(p.right)
+}
+
 // The cell of a pair of levels, added with one rounding.
 fn weigh_pair(p: Levels) -> Option<Cell>
     ensures value { λ r. ⌜ r ≡ cellOf (Reading.Pair p) ⌝ }
     ensures near { λ r. ⌜ found r (λ c. NearFor (Reading.Pair p) (c .weight)) ⌝ }
 {
-    if is_level(p.left) && is_level(p.right) {
+    if are_levels(p) {
         Some(weigh(p.left + p.right))
     } else {
         None
@@ -68,7 +78,7 @@ impl Reading {
         match self {
             Reading::Dropout => true,
             Reading::Single(y) => is_level(y),
-            Reading::Pair(p) => is_level(p.left) && is_level(p.right),
+            Reading::Pair(p) => are_levels(p),
         }
     }
 

@@ -10,11 +10,11 @@ use crate::halves::Halves;
 
 pub mod ops;
 
-// Rows as plain halves, none with a mark at or past `row_len`, which is 1 to 128.
+// Rows as plain halves, none with a mark at or past `len`, which is 1 to 128.
 #[derive(Drop)]
 pub struct RowTable {
-    row_len: usize,
+    len: usize,
     halves: Vec<Halves>,
-    ghost measured: { isLength «row_len» ≡ true },
-    ghost clean: { ((k : ℕ) → holdsRow «row_len» (getD (vec-items halves) k unset) ≡ true) },
+    ghost measured: { isLength len ≡ true },
+    ghost clean: { ((k : ℕ) → holdsRow len (getD (vec-items halves) k unset) ≡ true) },
 }

@@ -68,7 +68,7 @@ impl Bits {
     pub fn len(&self) -> usize
         ensures { λ r. ⌜ r ≡ length (places (now (self .entry))) ⌝ }
     {
-        self.len as usize
+        usize::from(self.len)
     }
 
     // The bit at a place; none at or past the length.

@@ -42,14 +42,17 @@ impl RowTable {
             return Err(Fault::RowMark(row));
         }
         let halves = rows.to_vec(heap)?;
-        Ok(RowTable { row_len, halves })
+        Ok(RowTable {
+            len: row_len,
+            halves,
+        })
     }
 
     // The length that every row has.
     pub fn row_len(&self) -> usize
         ensures { λ r. ⌜ r ≡ tableOf (now (self .entry)) .0 ⌝ }
     {
-        self.row_len
+        self.len
     }
 
     // How many rows there are.
@@ -64,7 +67,7 @@ impl RowTable {
         ensures { λ r. ⌜ mapped (λ w. places (w .bits)) r ≡ nth (tableRows (now (self .entry))) index ⌝ }
     {
         let halves = *self.halves.get(index)?;
-        match Bits::new(self.row_len, halves) {
+        match Bits::new(self.row_len(), halves) {
             Ok(bits) => Some(Row { bits }),
             Err(_) => None,
         }

@@ -5,4 +5,4 @@ use Rattle.frames.specs.Rows.{rowOf}
 use Rattle.frames.proofs.tables.RowTable.len.Needs as need
 
 pub returns : need.returns
-returns c = let t = c .args .self .now in c .len .ensures ∙ t .halves .ok .0 ∙ sym (length-map (vec-items (t .halves)) (rowOf (t .«row_len»)))
+returns c = let t = c .args .self .now in c .len .ensures ∙ t .halves .ok .0 ∙ sym (length-map (vec-items (t .halves)) (rowOf (t .len)))
