@@ -5,6 +5,7 @@ ghost use Prim.Native.Nat.{_^_, _<_, _≤_};
 ghost use Rattle.frames.specs.Halves.{unmarked};
 
 pub mod ops;
+pub mod text;
 
 // `len` places, 1 to 128: place 0 is the highest bit of `first`, place 64 the highest of `second`.
 // No place at or past `len` is marked.
