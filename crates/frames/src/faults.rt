@@ -1,7 +1,8 @@
 // Why a call refuses.
 ghost use mathlib.Core.Path.{_≡_};
 ghost use Rattle.std.specs.declared.option.Option.the-variants.{Some};
-ghost use Rattle.frames.specs.Faults.{faultText};
+ghost use Rattle.std.specs.Options.{mapped};
+ghost use Rattle.frames.specs.Faults.{refusal, faultText};
 ghost use Rattle.frames.specs.declared.faults.Fault.the-variants.{Memory};
 use std::alloc::AllocError;
 use std::alloc::Refused;
@@ -20,6 +21,20 @@ pub enum Fault {
     RowMark(usize),
     // no number: an allocation failed
     Memory,
+}
+
+impl Fault {
+    // The number of a refusal; want of memory has none.
+    pub fn number(self) -> Option<u8>
+        ensures { λ r. ⌜ r ≡ mapped (λ q. q .number) (refusal self) ⌝ }
+    {
+        match self {
+            Fault::Length => Some(1),
+            Fault::Level(_) => Some(2),
+            Fault::Mark | Fault::RowMark(_) => Some(4),
+            Fault::Memory => None,
+        }
+    }
 }
 
 pub impl From<AllocError> for Fault as FaultFromAlloc {
