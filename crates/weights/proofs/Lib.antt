@@ -1,0 +1,4 @@
+pub mod Worth
+pub mod Order
+pub mod Whole
+pub mod Counted
