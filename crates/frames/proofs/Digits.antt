@@ -1,15 +1,15 @@
 -- The binary digits of a number, and what `^`, `&`, `count_ones`, `<` and `>>` do to them.
-use mathlib.Core.Path.{_≡_, refl, sym, ap, ap₂, _∙_, subst}
+use mathlib.Core.Path.{_≡_, refl, sym, ap, ap₂, _∙_}
 use mathlib.Core.Logic.{_⊎_, inl, inr}
-use mathlib.Core.Bool.{Bool, true, false, not, _&&_, _||_, Bool·beq, cond}
+use mathlib.Core.Bool.{Bool, true, false, not, _&&_, Bool·beq, cond}
 use mathlib.Core.List.{List, [], _∷_, _++_}
-use Prim.Native.Nat.{ℕ, zero, suc, _+_, _-_, _*_, _/_, _%_, _^_, _≤_, _<_}
+use Prim.Native.Nat.{ℕ, zero, suc, _+_, _-_, _*_, _/_, _%_, _^_, _<_}
 use native.Mathlib.Nat.{pow-suc, mul-assoc, mul-comm, mul-mod-left, mod-lt, zero-lt-suc, suc-add, zero-add, add-comm}
 use native.Mathlib.Numerals.{one-add}
 use native.Mathlib.Omega.{arith}
 use lib.Dec.{eqb, ltb}
 use lib.ListN.{length, replicate}
-use lib.Bits.{bitAnd, bitXor, xor-mod, xor-shr, and-mod, and-shr, and-self}
+use lib.Bits.{bitAnd, bitXor, xor-mod, xor-shr, and-mod, and-shr}
 use lib.Count.{ones, ones-cat}
 use lib.Pow.{pow-pos, shl-shr, shr-shr, mod-pow-add}
 use Rattle.std.proofs.shelf.Ways.{tells}

@@ -1,7 +1,7 @@
 -- Two halves of 64 digits as one number of 128, of which the n highest are in use.
-use mathlib.Core.Path.{_≡_, refl, sym, ap, ap₂, _∙_, subst}
-use mathlib.Core.Logic.{_⊎_, inl, inr}
-use mathlib.Core.Bool.{Bool, true, false, _&&_, cond}
+use mathlib.Core.Path.{_≡_, sym, ap, ap₂, _∙_, subst}
+use mathlib.Core.Logic.{inl, inr}
+use mathlib.Core.Bool.{true, _&&_}
 use Prim.Native.Nat.{ℕ, suc, _+_, _-_, _*_, _/_, _%_, _^_, _≤_, _<_}
 use native.Mathlib.Nat.{mod-eq-of-lt, mod-one, mul-mod-left, lt-of-le-of-lt}
 use native.Mathlib.Omega.{arith}
@@ -10,7 +10,6 @@ use lib.ListN.{length}
 use lib.Bits.{bitAnd, bitXor, xor-mod, xor-shr, xor-block, and-block, and-le-l, and-self, and-mask}
 use lib.Count.{ones, ones-cat, ones-le}
 use lib.Pow.{shr-shr, mod-pow-add, mod-mod-pow, field, high, low, split, shl-lt, shl-shr, ones-split, ones-lt}
-use Rattle.std.specs.declared.option.Option.{Option}
 use Rattle.std.specs.declared.option.Option.the-variants.{Some, None}
 use Rattle.std.proofs.shelf.Maps.{nth-past}
 use Rattle.std.proofs.shelf.Tests.{eq-eqb, ne-eqb, eqb-true, cases-lt, cond-true, cond-false}

@@ -1,12 +1,11 @@
 -- The sum of two levels: its size, and how far its weight is from 256 times the exact sum's.
 use mathlib.Core.Path.{_≡_, refl, sym, ap, ap₂, _∙_, subst}
-use mathlib.Core.Logic.{_⊎_, inl, inr}
 use mathlib.Core.Bool.{Bool, true, false, not, _&&_, Bool·beq, cond}
 use Prim.Native.Nat.{ℕ, zero, suc, _+_, _-_, _*_, _/_, _^_, _≤_, _<_}
-use native.Mathlib.Nat.{le-trans, le-of-eq, lt-of-le-of-lt, mul-assoc, mul-comm, mul-left-comm, mul-right-comm, mul-one, mul-pos, mul-le-mul-right, le-of-mul-le-mul-right, mul-div-cancel, div-mul-le-self, div-lt-iff-lt-mul, add-mul, add-comm, mul-sub}
+use native.Mathlib.Nat.{le-trans, le-of-eq, mul-assoc, mul-comm, mul-right-comm, mul-pos, mul-le-mul-right, le-of-mul-le-mul-right, mul-div-cancel, add-mul, add-comm, mul-sub}
 use native.Mathlib.Omega.{arith}
-use lib.Dec.{T, leb, ltb, leb→le, le→leb, ltb→lt, nltb→le, lit<, lit≤}
-use lib.IntN.{ℤ, pos, negsuc, natAbs, negℤ, subℕ, _+ℤ_}
+use lib.Dec.{T, leb, ltb, leb→le, le→leb, ltb→lt, nltb→le}
+use lib.IntN.{ℤ, pos, negsuc, natAbs, subℕ, _+ℤ_}
 use lib.Pow.{pow-pos}
 use lib.Ieee.{Float, nan, inf, fin, binary32, up, down, round, sum, add, fits}
 use lib.Ieee.Fits.{down-pos}
@@ -14,7 +13,7 @@ use lib.Ieee.Exact.{HasValue}
 use lib.Ieee.Nearest.{div-same}
 use lib.Ieee.Scale.{grid}
 use Rattle.std.proofs.shelf.Tests.{and-parts}
-use Rattle.frames.specs.Cells.{within, isLevel, isSum, weightOf}
+use Rattle.frames.specs.Cells.{isLevel, isSum, weightOf}
 use Rattle.frames.specs.Near.{signed, exactSum, Near}
 use Rattle.frames.proofs.Rounds.{grid-le, grid-off, round-value}
 use Rattle.frames.proofs.Weighs.{held, shift}

@@ -1,19 +1,17 @@
 -- What `round` does to a fraction of size 254 at most, in units of 2 ^ -149.
-use mathlib.Core.Path.{_≡_, refl, sym, ap, ap₂, _∙_, subst}
-use mathlib.Core.Logic.{_⊎_, inl, inr}
-use mathlib.Core.Bool.{Bool, true, false, not, _&&_, _||_, Bool·beq, cond}
-use Prim.Native.Nat.{ℕ, zero, suc, _+_, _-_, _*_, _/_, _%_, _^_, _≤_, _<_, min, compare, Ordering, Ordering·lt, Ordering·eq, Ordering·gt, compare·zero-suc}
-use native.Mathlib.Nat.{le-trans, le-of-eq, lt-of-le-of-lt, lt-of-lt-of-le, mul-assoc, mul-comm, mul-left-comm, mul-right-comm, mul-one, mul-pos, mul-le-mul-right, mul-le-mul-left, le-of-mul-le-mul-right, mul-lt-mul-of-pos-right, mul-div-cancel, mul-mod-left, div-add-mod', mod-lt, div-lt-iff-lt-mul, div-mul-le-self, add-mul, mul-add, suc-mul, lt-irrefl}
+use mathlib.Core.Path.{_≡_, sym, ap, _∙_, subst}
+use mathlib.Core.Bool.{Bool, not}
+use Prim.Native.Nat.{ℕ, zero, suc, _+_, _-_, _*_, _/_, _%_, _^_, _≤_, _<_, compare, Ordering, Ordering·lt, Ordering·eq, Ordering·gt, compare·zero-suc}
+use native.Mathlib.Nat.{le-trans, le-of-eq, lt-of-le-of-lt, mul-assoc, mul-comm, mul-left-comm, mul-pos, mul-le-mul-right, mul-le-mul-left, mul-div-cancel, mul-mod-left, div-add-mod', mod-lt, div-lt-iff-lt-mul, add-mul, suc-mul, lt-irrefl}
 use native.Mathlib.Omega.{arith}
-use lib.Dec.{T, isLe, isEq, leb, ltb, eqb, leb→le, nleb→lt, eqb→eq, eqb-refl, le→leb, ltb→lt, nltb→le, lit<, lit≤}
+use lib.Dec.{T, isLe, isEq, leb, eqb, leb→le, nleb→lt, eqb→eq, eqb-refl, lit<}
 use lib.Arith.{lt-of-le-ne}
-use lib.IntN.{ℤ, pos, negsuc}
 use lib.Pow.{pow-add, pow-pos, pow-mono}
-use lib.Ieee.{Float, nan, inf, fin, Format, binary32, prec, emax, low, up, down, size, nearest, units, round, sum, add, mul, lt, le, toUnsigned, fits, ofBits}
+use lib.Ieee.{Float, binary32, size, nearest, round, lt, le}
 use lib.Ieee.Digits.{size-le}
-use lib.Ieee.Fits.{round-is, up-pos, down-pos, and-l, and-r}
-use lib.Ieee.Exact.{HasValue, units-val, round-exact}
-use lib.Ieee.Nearest.{closest, closest-mono, div-same}
+use lib.Ieee.Fits.{round-is}
+use lib.Ieee.Exact.{HasValue, units-val}
+use lib.Ieee.Nearest.{closest, closest-mono}
 use lib.Ieee.Order.{drop, kept}
 use lib.Ieee.Scale.{grid}
 

@@ -1,21 +1,21 @@
 -- What `is_good` and `weigh` compute.
-use mathlib.Core.Path.{_≡_, refl, sym, ap, ap₂, _∙_, subst}
+use mathlib.Core.Path.{_≡_, refl, sym, ap, ap₂, _∙_}
 use mathlib.Core.Logic.{_⊎_, inl, inr}
-use mathlib.Core.Bool.{Bool, true, false, not, _&&_, _||_, Bool·beq, cond}
-use Prim.Native.Nat.{ℕ, zero, suc, _+_, _-_, _*_, _/_, _%_, _^_, _≤_, _<_, min}
-use native.Mathlib.Nat.{le-trans, le-of-eq, lt-of-le-of-lt, mul-assoc, mul-comm, mul-left-comm, mul-right-comm, mul-one, zero-mul, mul-pos, mul-le-mul-right, le-of-mul-le-mul-right, mul-div-cancel, div-lt-iff-lt-mul, not-le-of-lt, lt-of-not-le, le-of-suc-le-suc, eq-zero-or-pos, one-mul}
+use mathlib.Core.Bool.{Bool, true, false, _&&_, _||_}
+use Prim.Native.Nat.{ℕ, zero, suc, _+_, _-_, _*_, _/_, _%_, _^_, _≤_, _<_}
+use native.Mathlib.Nat.{le-trans, mul-assoc, mul-comm, mul-one, zero-mul, mul-pos, mul-le-mul-right, le-of-mul-le-mul-right, div-lt-iff-lt-mul, not-le-of-lt, lt-of-not-le, le-of-suc-le-suc, eq-zero-or-pos, one-mul}
 use native.Mathlib.Omega.{arith}
-use lib.Dec.{T, leb, ltb, eqb, leb→le, le→leb, ltb→lt, eqb→eq, lit<, lit≤}
+use lib.Dec.{T, leb, ltb, eqb, leb→le, ltb→lt, eqb→eq, lit<, lit≤}
 use lib.IntN.{ℤ, pos, negsuc}
-use lib.Pow.{pow-add, pow-pos, pow-mono, pow-lt}
-use lib.Ieee.{Float, nan, inf, fin, binary32, up, down, round, mul, lt, le, toUnsigned, fits, ofBits}
+use lib.Pow.{pow-add, pow-lt}
+use lib.Ieee.{Float, nan, inf, fin, binary32, up, down, mul, lt, le, toUnsigned, fits, ofBits}
 use lib.Ieee.Fits.{up-pos, down-pos, and-l, and-r}
 use lib.Ieee.Exact.{HasValue, round-exact}
 use lib.Ieee.Nearest.{div-same}
 use Rattle.std.specs.Floats.{withSign}
 use Rattle.std.proofs.shelf.Ways.{tells}
 use Rattle.std.proofs.shelf.Tests.{le-ltb, lt-ltb}
-use Rattle.frames.specs.Cells.{within, isLevel, isSum, negative, weightOf, cellAt}
+use Rattle.frames.specs.Cells.{isLevel, isSum, negative, weightOf}
 
 -- ---- the constants
 pub at-0 : ofBits binary32 0 ≡ fin false 0 (pos 0)

@@ -6,7 +6,6 @@ use lib.Ieee.{Float, nan, inf, fin, up, down, add, binary32}
 use Rattle.std.specs.declared.option.Option.{Option}
 use Rattle.std.specs.declared.option.Option.the-variants.{Some, None}
 use Rattle.frames.specs.declared.readings.Cell.{Cell}
-use Rattle.frames.specs.declared.readings.Levels.{Levels}
 use Rattle.frames.specs.declared.readings.Reading.{Reading}
 use Rattle.frames.specs.declared.readings.Reading.the-variants.{Dropout, Single, Pair}
 

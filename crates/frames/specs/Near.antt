@@ -3,7 +3,6 @@ use Prim.Native.Nat.{ℕ, _+_, _*_, _/_, _^_, _<_}
 use mathlib.Core.Bool.{Bool, true, false}
 use lib.IntN.{ℤ, pos, negℤ, natAbs, _+ℤ_}
 use lib.Ieee.{Float, nan, inf, fin, up, down}
-use Rattle.frames.specs.declared.readings.Levels.{Levels}
 use Rattle.frames.specs.declared.readings.Reading.{Reading}
 use Rattle.frames.specs.declared.readings.Reading.the-variants.{Dropout, Single, Pair}
 

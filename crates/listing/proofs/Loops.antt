@@ -10,7 +10,6 @@ use lib.ListN.{length, take, drop}
 use Rattle.std.proofs.shelf.Tests.{cond-true, and-parts, and-from, leb-true, eq-eqb}
 use Rattle.std.specs.Options.{mapped}
 use Rattle.std.specs.Vec.{made}
-use Rattle.std.specs.declared.option.Option.{Option}
 use Rattle.std.specs.declared.option.Option.the-variants.{Some, None}
 use Rattle.std.specs.declared.result.Result.{Result}
 use Rattle.std.specs.declared.result.Result.the-variants.{Ok, Err}

@@ -1,7 +1,7 @@
 -- The cells that records of nine bytes give, one record after another.
 use Prim.Native.Nat.{ℕ, zero, suc, _*_, _/_, _%_}
 use mathlib.Core.Path.{_≡_}
-use mathlib.Core.Bool.{Bool, true, false, _&&_, cond}
+use mathlib.Core.Bool.{Bool, true, _&&_, cond}
 use mathlib.Core.List.{List, [], _∷_, map}
 use lib.Dec.{eqb}
 use lib.ListN.{length, take, drop}
@@ -14,7 +14,6 @@ use Rattle.frames.specs.Halves.{isLength}
 use Rattle.frames.specs.declared.faults.Fault.the-variants.{Length}
 use Rattle.frames.specs.declared.readings.Reading.{Reading}
 use Rattle.jobfile.specs.Records.{readingOf}
-use Rattle.jobfile.specs.declared.faults.BadReading.{BadReading}
 use Rattle.jobfile.specs.declared.records.ReadingFault.{ReadingFault}
 use Rattle.listing.specs.declared.reads.ListFault.{ListFault}
 use Rattle.listing.specs.declared.reads.ListFault.the-variants.{Frame, Reading as Bad}

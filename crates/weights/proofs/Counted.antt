@@ -1,6 +1,6 @@
 -- Flips first: its laws, and how large its promised values are.
 use mathlib.Core.Path.{_≡_, ap₂}
-use Prim.Native.Nat.{ℕ, _+_, _*_, _≤_}
+use Prim.Native.Nat.{ℕ, _*_, _≤_}
 use native.Mathlib.Omega.{arith}
 use Rattle.std.proofs.shelf.Ways.{tells}
 use Rattle.weights.specs.Counted.{Counted, flips-first-model}

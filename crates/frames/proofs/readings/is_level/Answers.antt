@@ -1,5 +1,4 @@
-use mathlib.Core.Path.{_∙_, ap, ap₂, sym, subst}
-use mathlib.Core.Bool.{false}
+use mathlib.Core.Path.{_∙_, ap₂, sym, subst}
 use lib.Dec.{T}
 use lib.Ieee.{Float, le, fits, binary32}
 use Rattle.frames.proofs.Weighs.{level-is, at-127, unsigned-held}

@@ -1,10 +1,7 @@
-use mathlib.Core.Path.{_≡_, _∙_, ap, ap₂, sym, subst}
-use mathlib.Core.Bool.{false}
-use Prim.Native.Nat.{ℕ}
+use mathlib.Core.Path.{_∙_, ap, ap₂, sym, subst}
 use lib.Dec.{T}
 use lib.Ieee.{Float, lt, mul, toUnsigned, fits, binary32}
 use Rattle.frames.proofs.Weighs.{negative-is, weight-is, at-0, at-256}
-use Rattle.frames.specs.Cells.{negative, weightOf, cellAt}
 use Rattle.frames.proofs.readings.weigh.Needs as need
 
 pub returns : need.returns

@@ -2,7 +2,7 @@ use mathlib.Core.Path.{refl, sym, subst}
 use borrow.Author.Needs.{needs}
 use Rattle.frames.specs.Near.{Near}
 use Rattle.frames.specs.declared.readings.Cell.{Cell}
-use Rattle.frames.proofs.Pairs.{Rounded, from-test, pair-is-sum, pair-near}
+use Rattle.frames.proofs.Pairs.{from-test, pair-is-sum, pair-near}
 use Rattle.frames.proofs.readings.weigh_pair.Needs as need
 
 pub weigh-requires : need.weigh-requires

@@ -1,13 +1,10 @@
 use mathlib.Core.Path.{_∙_, sym, ap}
-use mathlib.Core.List.{List}
 use Rattle.std.proofs.shelf.Results.{err-from-errBy}
 use Rattle.std.proofs.shelf.Tests.{false≢true}
 use Rattle.std.specs.Of.Vec.{vec-items}
 use Rattle.std.specs.Options.{isSome}
-use Rattle.frames.specs.Faults.{Refusal, refused}
+use Rattle.frames.specs.Faults.{refused}
 use Rattle.frames.specs.Frames.{frameOf}
-use Rattle.frames.specs.declared.readings.Reading.{Reading}
-use Rattle.std.specs.declared.option.Option.{Option}
 use Rattle.listing.proofs.Loops.{frame-read}
 use Rattle.listing.proofs.reads.read_frame.Needs as need
 

@@ -1,9 +1,9 @@
-use mathlib.Core.Path.{_≡_, _∙_, sym, ap}
-use mathlib.Core.Bool.{true, false}
-use mathlib.Core.List.{List, _++_, _∷_, []}
-use Prim.Native.Nat.{ℕ, _+_, _≤_, _<_}
+use mathlib.Core.Path.{_∙_, sym, ap}
+use mathlib.Core.Bool.{false}
+use mathlib.Core.List.{List, _++_}
+use Prim.Native.Nat.{ℕ, _≤_, _<_}
 use native.Mathlib.Omega.{arith}
-use lib.ListN.{length, getD, take}
+use lib.ListN.{length, take}
 use Rattle.std.proofs.Writes.{wrote-none, put-more, put-is}
 use Rattle.std.proofs.shelf.Lists.{map-more, take-all}
 use Rattle.std.specs.Results.{isOk}
