@@ -13,4 +13,6 @@ mod cell_tests;
 #[cfg(test)]
 mod frame_tests;
 #[cfg(test)]
+mod listing_tests;
+#[cfg(test)]
 mod word_tests;
