@@ -1,3 +1,3 @@
 // The cells of a frame as text: what the program `cells` prints.
 pub mod lines;
-pub mod reads;
+mod reads;
