@@ -9,7 +9,7 @@ use Rattle.std.specs.declared.option.Option.{Option}
 use Rattle.std.specs.shelf.Maps.{nth}
 use Rattle.frames.specs.Texts.{bitChar}
 
-getD-nth : (xs : List Bool) (i : ℕ) → getD xs i false ≡ valueOr (nth xs i) false
+pub getD-nth : (xs : List Bool) (i : ℕ) → getD xs i false ≡ valueOr (nth xs i) false
 getD-nth [] i = refl
 getD-nth (x ∷ xs) zero = refl
 getD-nth (x ∷ xs) (suc i) = getD-nth xs i

@@ -15,10 +15,14 @@ pub enum Fault {
     Length,
     // 2: the first place whose reading has a level that is no number, or above 127 in magnitude
     Level(usize),
+    // 3: more rows than a part takes
+    TooManyRows,
     // 4: a mark at or past the length
     Mark,
     // 4: the first row that has a mark at or past the length
     RowMark(usize),
+    // 10: a field of 0 or over 16 places or past the length, low above high, or high too large for it
+    Field,
     // no number: an allocation failed
     Memory,
 }
@@ -31,7 +35,9 @@ impl Fault {
         match self {
             Fault::Length => Some(1),
             Fault::Level(_) => Some(2),
+            Fault::TooManyRows => Some(3),
             Fault::Mark | Fault::RowMark(_) => Some(4),
+            Fault::Field => Some(10),
             Fault::Memory => None,
         }
     }
@@ -60,8 +66,10 @@ pub impl fmt::Display for Fault as FaultDisplay {
         match self {
             Fault::Length => f.write_str("fault 1"),
             Fault::Level(place) => write!(f, "fault 2 level {place}"),
+            Fault::TooManyRows => f.write_str("fault 3"),
             Fault::Mark => f.write_str("fault 4"),
             Fault::RowMark(row) => write!(f, "fault 4 row {row}"),
+            Fault::Field => f.write_str("fault 10"),
             Fault::Memory => f.write_str("out of memory"),
         }
     }
