@@ -22,7 +22,7 @@ use Rattle.jobfile.specs.declared.records.ReadingFault.the-variants.{Level}
 use Rattle.jobfile.specs.Records.{pattern, fourBytes, recordOfParts, recordOf, checkedBy, readingOfParts, readingOf}
 
 -- ---- four bytes and their number
-four-is : (a b c d : ℕ) → a < 256 → b < 256 → c < 256 → d < 256 → fourBytes (a + b * 256 + c * 65536 + d * 16777216) ≡ a ∷ b ∷ c ∷ d ∷ []
+pub four-is : (a b c d : ℕ) → a < 256 → b < 256 → c < 256 → d < 256 → fourBytes (a + b * 256 + c * 65536 + d * 16777216) ≡ a ∷ b ∷ c ∷ d ∷ []
 four-is a b c d ha hb hc hd =
     let n = a + b * 256 + c * 65536 + d * 16777216 in
     let p : n % 256 ≡ a = omega arith in

@@ -1,2 +1,13 @@
 pub mod Backs
+pub mod LowDigits
+pub mod RowBytes
+pub mod Gathering
+pub mod Sections
+pub mod TrailerFacts
+pub mod Laying
+pub mod FirstBad
+pub mod JobFacts
+pub mod TrailerBytes
+pub mod ReadBack
+pub mod Rewritten
 pub mod Goods

@@ -1,3 +1,12 @@
 pub mod Records
 pub mod Causes
 pub mod FaultTexts
+pub mod Gathered
+pub mod RowPlaces
+pub mod Trailers
+pub mod Jobs
+pub mod Files
+pub mod Written
+pub mod JobFaults
+pub mod Writes
+pub mod Pasted

@@ -1,5 +1,6 @@
 -- A record: the byte of its kind, then two patterns of 32-bit floats, each of four bytes, the least first.
-use Prim.Native.Nat.{ℕ, _+_, _*_, _/_, _%_}
+use Prim.Native.Nat.{ℕ, _+_, _*_, _/_, _%_, _<_}
+use mathlib.Core.Path.{_≡_}
 use mathlib.Core.Bool.{Bool, true, _&&_, cond}
 use mathlib.Core.List.{List, [], _∷_, _++_}
 use lib.Dec.{eqb, leb}
@@ -52,3 +53,7 @@ readingOf bytes = readingOfParts (getD bytes 0 0) (pattern bytes 1) (pattern byt
 -- record number `index` of records one after another, if its nine bytes are there
 abbrev pub recordAt : List ℕ → ℕ → Option (List ℕ)
 recordAt bytes index = cond (leb (9 * index + 9) (length bytes)) (Some (take 9 (drop (9 * index) bytes))) None
+
+-- each reading is read back from its record
+abbrev pub AllHeld : List Reading → Type 0
+AllHeld heard = (k : ℕ) → k < length heard → readingOf (recordOf (getD heard k Dropout)) ≡ Ok (getD heard k Dropout)
