@@ -10,7 +10,7 @@ use Rattle.std.specs.declared.option.Option.the-variants.{Some, None}
 use Rattle.std.specs.declared.result.Result.{Result}
 use Rattle.std.specs.declared.result.Result.the-variants.{Ok, Err}
 use Rattle.frames.specs.declared.faults.Fault.{Fault}
-use Rattle.frames.specs.declared.faults.Fault.the-variants.{Length, Level, TooManyRows, Mark, RowMark, Field, Memory}
+use Rattle.frames.specs.declared.faults.Fault.the-variants.{Length, Level, TooManyRows, Mark, RowMark, Cap, Field, Memory}
 
 -- a refusal, by its number, and the place or row that it tells if it tells one
 pub record Refusal : Type 0 where
@@ -32,6 +32,7 @@ refusal (Level place) = Some (telling 2 place)
 refusal TooManyRows = Some (plain 3)
 refusal Mark = Some (plain 4)
 refusal (RowMark row) = Some (telling 4 row)
+refusal Cap = Some (plain 9)
 refusal Field = Some (plain 10)
 refusal Memory = None
 
@@ -57,5 +58,6 @@ faultText (Level place) = codes "fault 2 level " ++ decimal place
 faultText TooManyRows = codes "fault 3"
 faultText Mark = codes "fault 4"
 faultText (RowMark row) = codes "fault 4 row " ++ decimal row
+faultText Cap = codes "fault 9"
 faultText Field = codes "fault 10"
 faultText Memory = codes "out of memory"

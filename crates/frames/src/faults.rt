@@ -21,6 +21,8 @@ pub enum Fault {
     Mark,
     // 4: the first row that has a mark at or past the length
     RowMark(usize),
+    // 9: a cap above 7
+    Cap,
     // 10: a field of 0 or over 16 places or past the length, low above high, or high too large for it
     Field,
     // no number: an allocation failed
@@ -37,6 +39,7 @@ impl Fault {
             Fault::Level(_) => Some(2),
             Fault::TooManyRows => Some(3),
             Fault::Mark | Fault::RowMark(_) => Some(4),
+            Fault::Cap => Some(9),
             Fault::Field => Some(10),
             Fault::Memory => None,
         }
@@ -69,6 +72,7 @@ pub impl fmt::Display for Fault as FaultDisplay {
             Fault::TooManyRows => f.write_str("fault 3"),
             Fault::Mark => f.write_str("fault 4"),
             Fault::RowMark(row) => write!(f, "fault 4 row {row}"),
+            Fault::Cap => f.write_str("fault 9"),
             Fault::Field => f.write_str("fault 10"),
             Fault::Memory => f.write_str("out of memory"),
         }

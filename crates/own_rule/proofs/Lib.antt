@@ -1,0 +1,2 @@
+pub mod FlatLaw
+pub mod ApartLaw

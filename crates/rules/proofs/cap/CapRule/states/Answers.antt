@@ -1,0 +1,12 @@
+use mathlib.Core.Path.{ap₂, _∙_}
+use native.Mathlib.Omega.{arith}
+use Rattle.rules.specs.Layer.{product}
+use Rattle.rules.proofs.Layers.{product-some}
+use Rattle.rules.proofs.cap.CapRule.states.Needs as need
+
+pub returns : need.returns
+returns g c = record {
+  number = c .told .ensures ∙ ap₂ product (c .states .ensures .number) (c .factor .ensures);
+  some = omega (arith, product-some (c .states .result) (c .factor .result) (c .states .ensures .some) (omega arith));
+  most = omega arith;
+}

@@ -1,0 +1,10 @@
+pub mod Trellis
+pub mod Meaning
+pub mod Answers
+pub mod Made
+pub mod Unbarred
+pub mod Free
+pub mod Burst
+pub mod Layer
+pub mod Cap
+pub mod Rows
