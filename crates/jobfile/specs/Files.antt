@@ -1,10 +1,10 @@
 -- The job that a file gives, wherever its sections stand, or the file's first fault.
-use Prim.Native.Nat.{ℕ, _+_, _*_}
+use Prim.Native.Nat.{ℕ, _+_, _*_, _/_}
 use mathlib.Core.Path.{_≡_}
 use mathlib.Core.Bool.{Bool, true, cond}
 use mathlib.Core.List.{List}
 use mathlib.Core.Logic.{_⊎_}
-use lib.ListN.{take, drop}
+use lib.ListN.{length, take, drop}
 use Rattle.std.specs.Results.{isOk}
 use Rattle.std.specs.declared.result.Result.{Result}
 use Rattle.std.specs.declared.result.Result.the-variants.{Ok, Err}
@@ -38,6 +38,15 @@ checkedRow n number place marked = cond (endsBefore n marked) (Ok marked) (Err r
 -- row number `number` of those from `from` on
 unfoldable pub rowAt : ℕ → List ℕ → ℕ → ℕ → Result (List Bool) BadRow
 rowAt n bytes from number = checkedRow n number (from + 16 * number) (bytePlaces (take 16 (drop (from + 16 * number) bytes)))
+
+-- what a section of readings gives, as a file's answer
+abbrev pub ofReadings : Result (List Reading) BadReading → Result (List Reading) FileFault
+ofReadings (Ok heard) = Ok heard
+ofReadings (Err e) = Err (Section (section.Reading e))
+
+-- the readings of the whole records that stand from 0 on, or the first that gives none
+abbrev pub readingsOf : List ℕ → Result (List Reading) FileFault
+readingsOf bytes = ofReadings (gathered (readingAt bytes 0) (length bytes / 9))
 
 -- the job of a trailer and what its sections give; a bad reading comes before a bad row
 abbrev pub jobOfSections : Trailer → Result (List Reading) BadReading → Result (List (List Bool)) BadRow → Result Contents FileFault

@@ -9,7 +9,7 @@ ghost use Rattle.std.specs.Results.{isOk, Cases};
 ghost use Rattle.std.specs.Vec.{made};
 ghost use Rattle.std.specs.declared.result.Result.the-variants.{Ok, Err};
 ghost use Rattle.frames.specs.Halves.{isLength};
-ghost use Rattle.jobfile.specs.Files.{readingAt, rowAt, BothGood, jobOfTrailer, jobOf, Answers};
+ghost use Rattle.jobfile.specs.Files.{readingAt, rowAt, ofReadings, readingsOf, BothGood, jobOfTrailer, jobOf, Answers};
 ghost use Rattle.jobfile.specs.Gathered.{gathered, withMeaning};
 ghost use Rattle.jobfile.specs.Jobs.{contents};
 ghost use Rattle.jobfile.specs.RowPlaces.{placesOf};
@@ -129,6 +129,24 @@ fn collect_rows(
         rows.push(row)?;
     }
     Ok(rows)
+}
+
+// Whether each of the `count` records from 0 on gives a reading.
+fn check_records(bytes: &[u8], count: usize) -> Result<(), SectionFault>
+    requires { ⌜ 9 * count ≤ length (now bytes) ⌝ }
+    ensures { λ r. ⌜ Cases r (λ _. isOk (gathered (readingAt (now (bytes .entry)) 0) count) ≡ true) (λ e. ofReadings (gathered (readingAt (now (bytes .entry)) 0) count) ≡ Err (FileFault.Section e)) ⌝ }
+{
+    check_readings(bytes, 0, count)?;
+    Ok(())
+}
+
+// The readings of bytes that hold whole records and nothing else; of several bad ones the first is told.
+pub fn read_readings(heap: Global, bytes: &[u8]) -> Result<Vec<Reading>, FileFault>
+    ensures { λ r. ⌜ Answers vec-items r (readingsOf (now (bytes .entry))) ⌝ }
+{
+    let count = bytes.len() / 9;
+    check_records(bytes, count)?;
+    collect_readings(heap, bytes, 0, count)
 }
 
 // Whether both sections of a file are good, given its trailer.

@@ -1,2 +1,2 @@
-pub mod Loops
+pub mod GoodRecords
 pub mod Spaces

@@ -8,15 +8,15 @@ use Rattle.std.specs.declared.result.Result.{Result}
 use Rattle.std.specs.declared.result.Result.the-variants.{Ok, Err}
 use Rattle.frames.specs.Faults.{faultText}
 use Rattle.frames.specs.Texts.{bitsText}
-use Rattle.jobfile.specs.FaultTexts.{badReadingText}
+use Rattle.jobfile.specs.FaultTexts.{fileFaultText}
 use Rattle.listing.specs.Records.{cellsOf}
 use Rattle.listing.specs.declared.reads.ListFault.{ListFault}
-use Rattle.listing.specs.declared.reads.ListFault.the-variants.{Frame, Reading}
+use Rattle.listing.specs.declared.reads.ListFault.the-variants.{Frame, File}
 
 -- what is printed of a fault
 abbrev pub listFaultText : ListFault → List ℕ
 listFaultText (Frame fault) = faultText fault
-listFaultText (Reading bad) = badReadingText bad
+listFaultText (File fault) = fileFaultText fault
 
 -- each number after a space
 abbrev pub spaced : List ℕ → List ℕ

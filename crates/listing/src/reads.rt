@@ -1,35 +1,32 @@
 // The frame that records give.
 ghost use mathlib.Core.Path.{_≡_};
-ghost use Prim.Native.Nat.{_+_, _*_, _≤_};
-ghost use lib.ListN.{length};
 ghost use Rattle.std.specs.Of.Vec.{vec-items};
 ghost use Rattle.frames.specs.Frames.{held};
 ghost use Rattle.std.specs.declared.option.Option.the-variants.{Some};
-ghost use Rattle.listing.specs.Records.{readingAt, readingsOf, cellsOf, isNumbered, Gives};
+ghost use Rattle.listing.specs.Records.{recordsOf, cellsOf, isNumbered, Gives};
 ghost use Rattle.listing.specs.Shown.{listFaultText};
-ghost use Rattle.frames.specs.declared.faults.Fault.the-variants.{Memory};
-ghost use Rattle.listing.specs.declared.reads.ListFault.the-variants.{Frame as OfFrame, Reading as OfReading};
+ghost use Rattle.listing.specs.declared.reads.ListFault.the-variants.{Frame as OfFrame, File as OfFile};
 use frames::faults::Fault;
 use frames::faults::FaultDebug;
 use frames::faults::FaultDisplay;
 use frames::faults::FaultPartialEq;
 use frames::framing::Frame;
 use frames::readings::Reading;
-use jobfile::faults::BadReading;
-use jobfile::faults::BadReadingDebug;
-use jobfile::faults::BadReadingDisplay;
-use jobfile::faults::BadReadingPartialEq;
-use jobfile::records::read_record;
-use jobfile::records::record_at;
+use jobfile::faults::FileFault;
+use jobfile::faults::FileFaultDebug;
+use jobfile::faults::FileFaultDisplay;
+use jobfile::faults::FileFaultPartialEq;
+use jobfile::reading::read_readings;
 use std::alloc::Global;
-use std::alloc::Refused;
 use std::fmt;
 
 // Why records give no frame.
 #[derive(Clone, Copy, Debug, PartialEq, Eq)]
 pub enum ListFault {
+    // the frame's: their number, or want of memory
     Frame(Fault),
-    Reading(BadReading),
+    // the file's: a record that gives no reading
+    File(FileFault),
 }
 
 impl ListFault {
@@ -39,7 +36,7 @@ impl ListFault {
     {
         match self {
             ListFault::Frame(fault) => fault.number().is_some(),
-            ListFault::Reading(_) => true,
+            ListFault::File(fault) => fault.number().is_some(),
         }
     }
 }
@@ -52,19 +49,11 @@ pub impl From<Fault> for ListFault as ListFaultFromFault {
     }
 }
 
-pub impl From<BadReading> for ListFault as ListFaultFromBadReading {
-    ghost converts = { λ b r. r ≡ OfReading b };
+pub impl From<FileFault> for ListFault as ListFaultFromFile {
+    ghost converts = { λ f r. r ≡ OfFile f };
 
-    fn from(bad: BadReading) -> ListFault {
-        ListFault::Reading(bad)
-    }
-}
-
-pub impl<T: Drop> From<Refused<T>> for ListFault as ListFaultFromRefused {
-    ghost converts = { λ _ r. r ≡ OfFrame Memory };
-
-    fn from(_e: Refused<T>) -> ListFault {
-        ListFault::Frame(Fault::Memory)
+    fn from(fault: FileFault) -> ListFault {
+        ListFault::File(fault)
     }
 }
 
@@ -74,42 +63,20 @@ pub impl fmt::Display for ListFault as ListFaultDisplay {
     fn fmt<W: fmt::Write>(&self, f: &mut fmt::Formatter<W>) -> fmt::Result {
         match self {
             ListFault::Frame(fault) => write!(f, "{fault}"),
-            ListFault::Reading(bad) => write!(f, "{bad}"),
+            ListFault::File(fault) => write!(f, "{fault}"),
         }
-    }
-}
-
-// The reading of record number `index`, which is there.
-fn reading_at(bytes: &[u8], index: usize) -> Result<Reading, ListFault>
-    requires { ⌜ 9 * index + 9 ≤ length (now bytes) ⌝ }
-    ensures { λ r. ⌜ r ≡ readingAt (now (bytes .entry)) index ⌝ }
-{
-    let Some(record) = record_at(bytes, index) else {
-        unreachable()
-    };
-    match read_record(&record) {
-        Ok(reading) => Ok(reading),
-        Err(cause) => Err(ListFault::Reading(BadReading {
-            cause,
-            index,
-            byte: 9 * index,
-        })),
     }
 }
 
 // The readings of 1 to 128 records one after another; of several bad ones the first is told.
 fn read_all(heap: Global, bytes: &[u8]) -> Result<Vec<Reading>, ListFault>
-    ensures { λ r. ⌜ Gives vec-items r (readingsOf (now (bytes .entry))) ⌝ }
+    ensures { λ r. ⌜ Gives vec-items r (recordsOf (now (bytes .entry))) ⌝ }
 {
     let count = bytes.len() / 9;
     if bytes.len() % 9 != 0 || count == 0 || count > 128 {
         return Err(ListFault::Frame(Fault::Length));
     }
-    let mut readings = Vec::new(heap);
-    for index in 0..count {
-        let reading = reading_at(bytes, index)?;
-        readings.push(reading)?;
-    }
+    let readings = read_readings(heap, bytes)?;
     Ok(readings)
 }
 

@@ -5,7 +5,7 @@ use Rattle.std.specs.Of.Vec.{vec-items}
 use Rattle.std.specs.Options.{isSome}
 use Rattle.frames.specs.Faults.{refused}
 use Rattle.frames.specs.Frames.{frameOf}
-use Rattle.listing.proofs.Loops.{frame-read}
+use Rattle.listing.proofs.GoodRecords.{frame-read}
 use Rattle.listing.proofs.reads.read_frame.Needs as need
 
 pub returns-in-Break-frame : need.returns-in-Break-frame
