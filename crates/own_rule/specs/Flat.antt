@@ -1,7 +1,8 @@
 -- One price for every flip.
 use Prim.Native.Nat.{ℕ}
-use Rattle.rules.specs.Free.{unbarred, freeMove}
+use Rattle.rules.specs.Free.{freeMove}
 use Rattle.rules.specs.Trellis.{Trellis}
+use Rattle.rules.specs.Unbarred.{unbarred}
 
 -- The steps over n places, each flip at the price p.
 abbrev pub flatTrellis : ℕ → ℕ → Trellis

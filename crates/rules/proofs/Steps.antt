@@ -11,7 +11,7 @@ use Rattle.std.specs.declared.option.Option.the-variants.{Some, None}
 use Rattle.std.specs.shelf.Maps.{nth}
 use Rattle.weights.specs.Model.{Model}
 use Rattle.weights.specs.Price.{worth}
-use Rattle.rules.specs.Answers.{answered, due}
+use Rattle.rules.specs.Answers.{due}
 use Rattle.rules.specs.Trellis.{Move, Trellis, then, walk}
 
 -- an element, or another where there is none

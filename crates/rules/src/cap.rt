@@ -13,7 +13,6 @@ use crate::layer::told;
 use crate::rule::Rule;
 use crate::step::Step;
 use frames::faults::Fault;
-use weights::weight::Weight;
 
 // The most flips, and the rule below. Its own state is the number of flips so far.
 #[derive(Drop)]

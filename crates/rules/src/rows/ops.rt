@@ -22,7 +22,9 @@ use frames::halves::Halves;
 use frames::tables::RowTable;
 use frames::words::Word;
 use std::alloc::Global;
-use weights::weight::Weight;
+
+// The most rows of one layer.
+const MOST: usize = 6;
 
 impl<R: Rule + Drop> Rows<R> {
     // The layer of these rows, at most 6, for a hard word of the layer's own length.
@@ -30,7 +32,7 @@ impl<R: Rule + Drop> Rows<R> {
         ensures table { λ r. ⌜ Answers (λ w. tableOf (w .table)) r (rowsFrom (length (places (hard .bits))) (now (rows .entry))) ⌝ }
         ensures parts { λ r. ⌜ made r (λ w. (w .below ≡ below) × (w .hard ≡ hard)) ⌝ }
     {
-        if rows.len() > 6 {
+        if rows.len() > MOST {
             return Err(Fault::TooManyRows);
         }
         let table = RowTable::new(heap, hard.bits.len(), rows)?;

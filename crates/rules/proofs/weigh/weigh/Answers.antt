@@ -1,8 +1,6 @@
 use mathlib.Core.Bool.{false}
-use mathlib.Core.Path.{_≡_, ap, sym, _∙_}
-use Prim.Native.Nat.{_≤_, _<_}
+use mathlib.Core.Path.{ap, sym, _∙_}
 use native.Mathlib.Omega.{arith}
-use lib.ListN.{length, getD}
 use Rattle.frames.specs.Words.{places}
 use Rattle.std.specs.Options.{mapped, valueOr}
 use Rattle.weights.specs.Price.{worth}

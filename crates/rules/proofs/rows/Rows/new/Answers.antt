@@ -9,11 +9,11 @@ use Rattle.rules.specs.Rows.{columnsOf}
 use Rattle.rules.proofs.RowsLaw.{rows-many, table-length}
 use Rattle.rules.proofs.rows.Rows.new.Needs as need
 
-pub returns-then-rows-gt6 : need.returns-then-rows-gt6
-returns-then-rows-gt6 g c =
+pub returns-then-rows-gt-MOST : need.returns-then-rows-gt-MOST
+returns-then-rows-gt-MOST g c =
     let b = c .args .hard .bits in
     let n = length-spelled (b .len) (b .first) (b .second) in
-    record { table = ap refused (sym (rows-many (length (places b)) (c .args .rows .now) (omega (arith, b .some)) (omega (arith, b .most)) (c .if-rows-gt6 .taken))); parts = tt }
+    record { table = ap refused (sym (rows-many (length (places b)) (c .args .rows .now) (omega (arith, b .some)) (omega (arith, b .most)) (c .if-rows-gt-MOST .taken))); parts = tt }
 
 pub columns-of-requires : need.columns-of-requires
 columns-of-requires g c κs = omega (arith, table-length (c .len .result) (c .args .rows .now) (tableOf (c .in-Continue-table .table)) (c .in-Continue-table .ensures tt))

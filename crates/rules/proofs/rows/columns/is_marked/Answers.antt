@@ -1,6 +1,6 @@
 use mathlib.Core.Bool.{false}
 use mathlib.Core.List.{[]}
-use mathlib.Core.Path.{sym, ap, _∙_}
+use mathlib.Core.Path.{ap, _∙_}
 use lib.ListN.{getD}
 use Rattle.frames.specs.Tables.{tableRows}
 use Rattle.frames.specs.Words.{places}
