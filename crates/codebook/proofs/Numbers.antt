@@ -9,7 +9,7 @@ use native.Mathlib.Numerals.{add-one}
 use native.Mathlib.Omega.{arith}
 use lib.Dec.{eqb, ltb}
 use lib.ListN.{length, getD, take, drop, length-drop}
-use lib.Pow.{pow-pos, pow-mono}
+use lib.Pow.{pow-pos}
 use mir.Val.{boolByte}
 use Rattle.std.proofs.shelf.Bits.{le-div}
 use Rattle.std.proofs.shelf.Lists.{take-more, getD-drop}
@@ -37,10 +37,6 @@ number-more w from k b h e =
 
 pub room-more : (v b k : ℕ) → v < 2 ^ k → b ≤ 1 → 2 * v + b < 2 ^ (k + 1)
 room-more v b k h l = rw (add-one k, pow-suc 2 k) (omega arith)
-
--- below 16 places there is room for one more
-pub room-fits : (v b k : ℕ) → v < 2 ^ k → k ≤ 15 → b ≤ 1 → 2 * v + b < 2 ^ 16
-room-fits v b k h l m = let p : 2 ^ k ≤ 2 ^ 15 = pow-mono l in omega arith
 
 -- a bit as a number
 pub byte-is : (b : Bool) (v : ℕ) → v ≡ boolByte b → v ≡ cond b 1 0

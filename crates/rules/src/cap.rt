@@ -1,10 +1,11 @@
 // Cap: what the rule below admits, with at most a number of flips.
 ghost use Prim.Native.Nat.{_+_, _≤_};
-ghost use Rattle.frames.specs.Faults.{Answers};
+ghost use Rattle.frames.specs.Faults.{answer};
 ghost use Rattle.frames.specs.Places.{marks};
 ghost use Rattle.rules.specs.Cap.{capFrom, capOwn, capTurn};
 ghost use Rattle.rules.specs.Layer.{layered};
 ghost use Rattle.std.specs.Vec.{made};
+ghost use Rattle.std.specs.declared.option.Option.the-variants.{Some};
 ghost use lib.Dec.{leb};
 ghost use mathlib.Core.Bool.{_&&_};
 ghost use mathlib.Core.Path.{_≡_};
@@ -25,7 +26,7 @@ pub struct Cap<R> {
 impl<R: Rule + Drop> Cap<R> {
     // The layer that admits at most `most` flips, 0 to 7.
     pub fn new(below: R, most: u8) -> Result<Cap<R>, Fault>
-        ensures most { λ r. ⌜ Answers (λ w. w .most) r (capFrom most) ⌝ }
+        ensures most { λ r. ⌜ answer (λ w. w .most) r ≡ Some (capFrom most) ⌝ }
         ensures below { λ r. ⌜ made r (λ w. w .below ≡ below) ⌝ }
     {
         if most > 7 {
