@@ -1,5 +1,6 @@
 -- One more reading: its bit below the digits so far, its weight after the weights so far.
-use Rattle.std.proofs.Common.{◌≡◌, ℕ, zero, suc, ◌+◌, ◌*◌, ◌/◌, ◌%◌, ◌^◌, ◌<◌, ◌≤◌, Bool, true, false, cond, eqb, List, [], ◌∷◌, ◌++◌, map, length, get_or, take, Some, None, Ok, Err, Option, sym, ap, ◌∙◌, ap₂, pow-suc, div-one, add-one, one-add, arith, lit<, pow_mono, shr-shr}
+use Rattle.std.proofs.Common.{◌≡◌, ℕ, zero, suc, ◌+◌, ◌*◌, ◌/◌, ◌%◌, ◌^◌, ◌<◌, ◌≤◌, Bool, true, false, cond, eqb, List, [], ◌∷◌, ◌++◌, map, length, get_or, take, Some, None, Ok, Err, Option, sym, refl, ap, ◌∙◌, ap₂, pow-suc, div-one, add-one, one-add, arith, lit<, pow_mono, shr-shr}
+use mir.Val.{bool_byte}
 use Rattle.std.proofs.lemmas.List.{take_more, map_more}
 use Rattle.std.proofs.lemmas.Bool.{cond-true}
 use Rattle.frames.specs.Cells.{is_good, cell_for, cell_of}
@@ -33,6 +34,11 @@ digits_push (suc n) v b h =
     let d : (v * 2 + b) / 2 ≡ v = omega arith in
     let e : (v * 2 + b) / 2 ^ suc n ≡ v / 2 ^ n = ap (λ k. (v * 2 + b) / 2 ^ k) (sym (one-add n)) ∙ sym (shr-shr (v * 2 + b) 1 n) ∙ ap (λ k. k / 2 ^ n) d in
     ap₂ (λ (x : Bool) (xs : List Bool). x ∷ xs) (ap is_odd e) (digits_push n v b h)
+
+-- a bit as a byte, and as the digit that it stands for
+pub byte_digit : (b : Bool) → bool_byte b ≡ cond b 1 0
+byte_digit true = refl
+byte_digit false = refl
 
 pub bit_le : (x : Bool) (b : ℕ) → b ≡ cond x 1 0 → b ≤ 1
 bit_le true b e = omega arith

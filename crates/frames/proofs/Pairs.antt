@@ -1,5 +1,5 @@
 -- The sum of two levels: its size, and how far its weight is from 256 times the exact sum's.
-use Rattle.std.proofs.Common.{◌≡◌, ℕ, zero, suc, ◌+◌, ◌-◌, ◌*◌, ◌/◌, ◌^◌, ◌<◌, ◌≤◌, Bool, true, false, cond, not, ◌&&◌, T, ltb, leb, ℤ, pos, negsuc, ◌+ℤ◌, nat_abs, sym, refl, ap, ◌∙◌, subst, ap₂, le_trans, le_of_eq, mul-le-mul_right, mul_assoc, mul_comm, add-mul, add_comm, mul-pos, mul_right_comm, le_of_mul-le-mul_right, mul-div_cancel, arith, le→leb, ltb→lt, leb→le, nltb→le, pow_pos}
+use Rattle.std.proofs.Common.{◌≡◌, ℕ, zero, suc, ◌+◌, ◌-◌, ◌*◌, ◌/◌, ◌^◌, ◌<◌, ◌≤◌, Bool, true, false, cond, not, ◌&&◌, T, ltb, ℤ, pos, negsuc, ◌+ℤ◌, nat_abs, sym, refl, ap, ◌∙◌, subst, ap₂, le_trans, le_of_eq, mul-le-mul_right, mul_assoc, mul_comm, add-mul, add_comm, mul-pos, mul_right_comm, le_of_mul-le-mul_right, mul-div_cancel, arith, le→leb, ltb→lt, leb→le, nltb→le, pow_pos}
 use mathlib.Core.Bool.{beq}
 use native.Mathlib.Nat.{mul-sub}
 use lib.IntN.{sub_ℕ}

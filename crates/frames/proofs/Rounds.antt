@@ -1,11 +1,11 @@
 -- What `round` does to a fraction of size 254 at most, in units of 2 ^ -149.
-use Rattle.std.proofs.Common.{◌≡◌, ℕ, zero, suc, ◌+◌, ◌-◌, ◌*◌, ◌/◌, ◌%◌, ◌^◌, ◌<◌, ◌≤◌, Bool, not, T, eqb, leb, sym, ap, ◌∙◌, subst, le_trans, le_of_eq, lt_of_le_of_lt, lt_irrefl, mul-le-mul_right, mod-lt, mul_assoc, suc-mul, mul_comm, div-lt_iff_lt-mul, add-mul, mul-le-mul_left, mul-pos, div-add-mod', mul-div_cancel, mul_left_comm, arith, lit<, eqb→eq, leb→le, pow_pos, pow_mono, pow-add}
+use Rattle.std.proofs.Common.{◌≡◌, ℕ, zero, suc, ◌+◌, ◌-◌, ◌*◌, ◌/◌, ◌%◌, ◌^◌, ◌<◌, ◌≤◌, Bool, not, T, eqb, sym, ap, ◌∙◌, subst, le_trans, le_of_eq, lt_of_le_of_lt, lt_irrefl, mul-le-mul_right, mod-lt, mul_assoc, suc-mul, mul_comm, div-lt_iff_lt-mul, add-mul, mul-le-mul_left, mul-pos, div-add-mod', mul-div_cancel, mul_left_comm, arith, lit<, eqb→eq, leb→le, pow_pos, pow_mono, pow-add}
 use Prim.Native.Nat.compare
 use Prim.Native.Nat.{compare, Ordering}
 use native.Mathlib.Nat.{mul-mod_left}
 use lib.Dec.{is_le, compare_is_eq, nleb→lt, eqb_refl}
 use lib.Arith.{lt_of_le-ne}
-use lib.Ieee.{Float, binary32, size, nearest, round, lt, le}
+use lib.Ieee.{Float, binary32, size, nearest, round}
 use lib.Ieee.Digits.{size-le}
 use lib.Ieee.Fits.{round_is}
 use lib.Ieee.Exact.{HasValue, units_val}

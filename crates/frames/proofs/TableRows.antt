@@ -43,8 +43,8 @@ module _ (n : ℕ) (hs : List Halves) (i : ℕ) where
         let p : b ≡ row_of n h = cc in
         ap Some (p ∙ ap (row_of n) at) ∙ sym (nth_map (row_of n) hs i unset lt)
 
-    pub row-given : (o : Option Refusal) → option_map Err o ≡ Some (bits_of n h.first h.second) → ⊥
-    row-given o e = not_refused o (row_of n h) (e ∙ ap Some good)
+    pub row_given : (o : Option Refusal) → option_map Err o ≡ Some (bits_of n h.first h.second) → ⊥
+    row_given o e = not_refused o (row_of n h) (e ∙ ap Some good)
 
 -- a table whose rows all pass, read at any index
 pub all_clean : (n : ℕ) (hs : List Halves) → first_failing (holds_row n) hs ≡ None → holds_row n unset ≡ true → (k : ℕ) → holds_row n (get_or hs k unset) ≡ true

@@ -96,7 +96,7 @@ weight_is (fin s m e) t f =
     cut_value (mul binary32 (fin false m e) (fin false 1 (pos 8))) (m * up e * 256) (down e * 1) (omega (arith, down_pos e)) (omega (arith, down_pos e)) (times_256 m e g.0 g.1 l)
     ∙ ap₂ ◌/◌ (mul_comm (m * up e) 256) (mul-one (down e))
 
-pub unsigned_held : (y : Float) → T (fits binary32 (float_with_sign false y)) → T (fits binary32 y)
+pub unsigned_held : (y : Float) → T (fits binary32 y) → T (fits binary32 (float_with_sign false y))
 unfolding fits float_with_sign
 unsigned_held nan t = tt
 unsigned_held (inf s) t = tt

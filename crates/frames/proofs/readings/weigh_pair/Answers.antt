@@ -6,15 +6,15 @@ use Rattle.frames.proofs.readings.weigh_pair.Goals as goal
 
 pub weigh-requires : goal.weigh-requires
 weigh-requires c =
-    let e = c.if-are-levels.ensures in
-    pair_is_sum c.args.p.left c.args.p.right (from_test c.args.p.left c.args.p.right e.value (e.left-held refl) (e.right-held refl))
+    let e = c.if-are_levels.ensures in
+    pair_is_sum c.args.p.left c.args.p.right (from_test c.args.p.left c.args.p.right e.value (e.left_held refl) (e.right_held refl))
 
-pub returns-then-are-levels : goal.returns-then-are-levels
-returns-then-are-levels c =
-    let e = c.if-are-levels.ensures in
+pub returns-then-are_levels : goal.returns-then-are_levels
+returns-then-are_levels c =
+    let e = c.if-are_levels.ensures in
     record {
       value = search rules;
       near =
           subst (λ (x : Cell). Near c.args.p.left c.args.p.right x.weight) (sym c.weigh.ensures)
-          (pair_near c.args.p.left c.args.p.right (from_test c.args.p.left c.args.p.right e.value (e.left-held refl) (e.right-held refl)));
+          (pair_near c.args.p.left c.args.p.right (from_test c.args.p.left c.args.p.right e.value (e.left_held refl) (e.right_held refl)));
     }

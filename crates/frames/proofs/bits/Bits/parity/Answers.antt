@@ -3,8 +3,8 @@ use Rattle.frames.specs.Halves.{is_odd}
 use Rattle.frames.proofs.Joined.{overlap_is, and_small}
 use Rattle.frames.proofs.bits.Bits.parity.Goals as goal
 
-pub overflow-add-both : goal.overflow-add-both
-overflow-add-both c =
+pub overflow_add-both : goal.overflow_add-both
+overflow_add-both c =
     let s = c.args.self.now in
     let o = c.args.row.now.bits in
     omega (arith, and_small s.first o.first s.above, and_small s.second o.second s.below)

@@ -10,12 +10,18 @@ returns-then-self-other c =
     let o = c.args.other.now in
     flipped_other s.len s.first s.second o.len o.first o.second c.if-self-other.true
 
-pub invariant-of-result : goal.invariant-of-result
-invariant-of-result c =
+pub invariant_of-result : goal.invariant_of-result
+invariant_of-result c =
     let s = c.args.self.now in
     let o = c.args.other.now in
     let u : unmarked s.len o.first o.second ≡ true = subst (λ (n : ℕ). unmarked n o.first o.second ≡ true) (sym c.if-self-other.false) o.clean in
-    (s.some, (s.most, (xor_lt 64 s.first o.first s.above o.above, (xor_lt 64 s.second o.second s.below o.below, (xor_unmarked s.len s.first s.second o.first o.second s.below o.below s.clean u, tt)))))
+    record {
+      some = s.some;
+      most = s.most;
+      above = xor_lt 64 s.first o.first s.above o.above;
+      below = xor_lt 64 s.second o.second s.below o.below;
+      clean = xor_unmarked s.len s.first s.second o.first o.second s.below o.below s.clean u;
+    }
 
 pub returns : goal.returns
 returns c =

@@ -15,8 +15,8 @@ loop-place-preserved g c = λ p.
     let before = c.loop-place.invariant p in
     let h : i < length ps = omega arith in
     let e = ap (λ (d : List ℕ). bits_text (take i ps) ++ d) c.digit.ensures ∙ sym (map_more bit_char ps i false h) in
-    has_written_of_eq g.W.Write.write_str_gives c.args.f.now _ _ c.write-str.new.self e
-    (has_written_append g.W.Write.write_str_gives c.args.f.now _ c.loop-place.f _ c.write-str.new.self before (c.write-str.ensures.writes before.plain (ap is_ok c.in-ok-write-str.was)))
+    has_written_of_eq g.W.Write.write_str_gives c.args.f.now _ _ c.write_str.new.self e
+    (has_written_append g.W.Write.write_str_gives c.args.f.now _ c.loop-place.f _ c.write_str.new.self before (c.write_str.ensures.writes before.plain (ap is_ok c.in_ok-write_str.was)))
 
 pub returns-clause-writes : goal.returns-clause-writes
 returns-clause-writes g c = λ p _.
