@@ -1,4 +1,6 @@
 // Prints the hard bits and the weights of a frame: records of nine bytes on standard input, at most 128.
+#![tactic(auto)]
+
 use listing::lines::lines;
 use std::io::Read;
 

@@ -1,4 +1,6 @@
 // One frame decoded in several ways: a kind of weight, a rule, layers and tests are chosen, and what each choice says is printed side by side.
+#![tactic(auto)]
+
 mod frame;
 mod shown;
 

@@ -1,4 +1,6 @@
 // Tests of a word: which words a search may answer with.
+#![tactic(auto)]
+
 pub mod both;
 pub mod fields;
 pub mod parity;

@@ -1,4 +1,6 @@
 // From a job's bytes to the line that tells how its search ended.
+#![tactic(auto)]
+
 pub mod lines;
 pub mod named;
 mod reports;

@@ -1,4 +1,6 @@
 // Compares the search with a plain count of all patterns, for many small frames and every rule, stack of layers, test and kind of weight.
+#![tactic(auto)]
+
 mod cases;
 mod groups;
 mod kinds;

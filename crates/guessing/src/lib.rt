@@ -1,4 +1,6 @@
 // Guesses in order: the patterns that a rule admits, lighter first, one after the other.
+#![tactic(auto)]
+
 pub mod areas;
 pub mod enumeration;
 mod flips;

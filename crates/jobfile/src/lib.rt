@@ -1,4 +1,6 @@
 // Job files: jobs, their faults, and how they are read and written.
+#![tactic(auto)]
+
 pub mod faults;
 pub mod jobs;
 pub mod reading;

@@ -1,4 +1,6 @@
 // A search with four parts written outside the library: a kind of weight, a rule, a layer and a test.
+#![tactic(auto)]
+
 use codebook::testing::Test;
 use frames::bits::Bits;
 use frames::faults::Fault;

@@ -1,4 +1,6 @@
 // A guess rule and a layer written outside the crate `rules`.
+#![tactic(auto)]
+
 pub mod apart;
 pub mod flat;
 

@@ -1,4 +1,6 @@
 // A test of a word written outside the crate `codebook`: the struct, its size and what it accepts, and two methods.
+#![tactic(auto)]
+
 ghost use Rattle.std.specs.Prelude.{◌%◌, ◌&&◌, length, ◌==◌};
 ghost use Rattle.frames.specs.Places.{marks};
 ghost use Rattle.std.proofs.Common.{rules};

@@ -1,4 +1,6 @@
 // A kind of weight written outside the crate `weights`: the struct, its model and value, and five methods.
+#![tactic(auto)]
+
 ghost use Rattle.std.specs.Prelude.{◌≡◌, ℕ};
 ghost use Rattle.weights.specs.Whole.{whole};
 ghost use Rattle.weights.specs.WholeLemmas.{whole_laws};

@@ -1,5 +1,7 @@
 // Reads a job from standard input, and writes it to standard output in the writer's layout.
 // A fault goes to standard error, with nothing on standard output, and the program ends with an error.
+#![tactic(auto)]
+
 use jobfile::reading::read;
 use jobfile::writing::write;
 use std::io::{Read, Write};

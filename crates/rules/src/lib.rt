@@ -1,4 +1,6 @@
 // Guess rules: which patterns of flips are tried, and what they weigh. Layers stand over any rule.
+#![tactic(auto)]
+
 pub mod burst;
 pub mod cap;
 pub mod free;

@@ -1,4 +1,6 @@
 // Searching the guesses of a rule for the first word that a test accepts.
+#![tactic(auto)]
+
 pub mod advance;
 pub mod lengths;
 pub mod open;

@@ -1,4 +1,6 @@
 // Tests of the search: frames whose guesses are counted by hand, and every refusal at its border.
+#![tactic(auto)]
+
 #[cfg(test)]
 mod advance_tests;
 #[cfg(test)]

@@ -1,4 +1,6 @@
 // Kinds of weight: what flips and surcharges cost, and how costs are added up and compared.
+#![tactic(auto)]
+
 pub mod flips_first;
 pub mod level;
 pub mod price;

@@ -14,7 +14,7 @@ pub enum Price {
 impl Price {
     // The price as a weight of the kind `W`. The number asked with is always in range.
     pub fn weight<W: Weight>(self) -> W
-        ensures value { value result ≡ price_of model self }
+        ensures value { W.value result ≡ price_of W.model self }
         ensures range { asked self < 65536 }
     {
         match self {
@@ -27,7 +27,7 @@ impl Price {
 // The sum of the prices, promised of at most 256 of them.
 pub fn total<W: Weight>(prices: &[Price]) -> W
     ensures range { InRange prices.now }
-    ensures value { length prices.now ≤ 256 → value result ≡ worth model prices.now }
+    ensures value { length prices.now ≤ 256 → W.value result ≡ worth W.model prices.now }
 {
     let mut sum = W::zero();
     for price in prices {

@@ -42,7 +42,7 @@ pub trait Weight: Copy {
 
 // Every kind keeps the laws, and adds up lists of prices.
 pub fn laws_hold<W: Weight>() -> u8
-    ensures { Kept model }
+    ensures { Kept W.model }
 {
     0
 }

@@ -1,4 +1,6 @@
 // Worked examples of the library, shown from its definitions or run as tests.
+#![tactic(auto)]
+
 ghost use Rattle.worked.specs.Cases.{WorkedFrames};
 ghost use Rattle.worked.specs.Cells.{WorkedCells};
 

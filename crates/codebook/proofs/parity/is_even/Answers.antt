@@ -7,7 +7,7 @@ use Rattle.codebook.proofs.Evens.{row_read, row_there}
 use Rattle.codebook.proofs.parity.is_even.Goals as goal
 
 pub unreachable-requires : goal.unreachable-requires
-unreachable-requires c = row_there (table_rows c.args.table.now) c.args.index c.requires c.in-default.ensures
+unreachable-requires c = row_there (table_rows c.args.table.now) c.args.index c.requires c.in_default.ensures
 
 pub returns : goal.returns
 returns c =

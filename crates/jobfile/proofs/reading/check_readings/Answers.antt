@@ -4,10 +4,10 @@ use Rattle.jobfile.specs.Files.{reading_at}
 use Rattle.jobfile.proofs.Gathering.{gathered_fault, still_ok}
 use Rattle.jobfile.proofs.reading.check_readings.Goals as goal
 
-pub returns-in-err-reading-at : goal.returns-in-err-reading-at
-returns-in-err-reading-at c =
-    let p = err_from_is_err_and c.from-residual.result c.from-residual.ensures.1 in
+pub returns-in_err-reading_at : goal.returns-in_err-reading_at
+returns-in_err-reading_at c =
+    let p = err_from_is_err_and c.from_residual.result c.from_residual.ensures.1 in
     rw (p.1, p.2) (gathered_fault (reading_at c.args.bytes.now c.args.at) c.loop-index.index c.args.count _ c.loop-index.invariant (sym c.in-err-reading-at.ensures) c.loop-index-test.true)
 
 pub loop-index-preserved : goal.loop-index-preserved
-loop-index-preserved c = still_ok (reading_at c.args.bytes.now c.args.at) c.loop-index.index _ c.loop-index.invariant (sym c.in-ok-reading-at.ensures)
+loop-index-preserved c = still_ok (reading_at c.args.bytes.now c.args.at) c.loop-index.index _ c.loop-index.invariant (sym c.in_ok-reading_at.ensures)

@@ -6,5 +6,5 @@ use Rattle.jobfile.proofs.records.pattern_of.Goals as goal
 pub returns : goal.returns
 returns c = record {
   value = search rules;
-  back = ap (of_bits binary32) c.f32-to-bits-with-nan.ensures ∙ of_bits-to_bits binary32 c.args.level (subst T (sym c.well-formed.0.1) tt);
+  back = ap (of_bits binary32) c.f32_to_bits_with_nan.ensures ∙ of_bits-to_bits binary32 c.args.level (subst T (sym c.well_formed.0.1) tt);
 }

@@ -5,5 +5,5 @@ use Rattle.jobfile.proofs.records.read_record.Goals as goal
 
 pub returns : goal.returns
 returns c =
-    let v : c.reading-of-parts.result ≡ reading_of c.args.record.now = search rules in
+    let v : c.reading_of_parts.result ≡ reading_of c.args.record.now = search rules in
     record { value = v; back = record_back _ _ v c.told-record c.fits-record }

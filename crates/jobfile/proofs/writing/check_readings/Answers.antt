@@ -10,11 +10,11 @@ use Rattle.jobfile.proofs.writing.check_readings.Goals as goal
 abbrev told : Option ℕ → Option BadReading
 told o = option_map (λ k. record { cause = Level; index = k; byte = 9 * k }) o
 
-pub returns-then-not-is-good : goal.returns-then-not-is-good
-returns-then-not-is-good c = sym (ap told (passed_failing is_good c.args.readings.now c.loop-index.index Dropout c.loop-index-test.true (sym c.if-not-is-good.ensures) c.loop-index.invariant))
+pub returns-then-not-is_good : goal.returns-then-not-is_good
+returns-then-not-is_good c = sym (ap told (passed_failing is_good c.args.readings.now c.loop-index.index Dropout c.loop-index-test.true (sym c.if-not-is_good.ensures) c.loop-index.invariant))
 
 pub loop-index-preserved : goal.loop-index-preserved
-loop-index-preserved c = passed_more is_good c.args.readings.now c.loop-index.index Dropout c.loop-index-test.true (sym c.if-not-is-good.ensures) c.loop-index.invariant
+loop-index-preserved c = passed_more is_good c.args.readings.now c.loop-index.index Dropout c.loop-index-test.true (sym c.if-not-is_good.ensures) c.loop-index.invariant
 
 pub returns : goal.returns
 returns c = sym (ap told (passed_all is_good c.args.readings.now c.loop-index.index c.loop-index-test.false c.loop-index.invariant))

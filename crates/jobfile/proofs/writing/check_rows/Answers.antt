@@ -14,13 +14,13 @@ told n o = option_map (λ k. record { index = k; byte = 9 * n + 16 * k }) o
 abbrev good : ℕ → Halves → Bool
 good n h = ends_before n (places_of h)
 
-pub returns-then-not-ends-before : goal.returns-then-not-ends-before
-returns-then-not-ends-before c =
+pub returns-then-not-ends_before : goal.returns-then-not-ends_before
+returns-then-not-ends_before c =
     let n = c.args.n in
-    sym (ap (told n) (failing_map (ends_before n) places_of c.args.rows.now ∙ passed_failing (good n) c.args.rows.now c.loop-index.index unset c.loop-index-test.true (sym c.if-not-ends-before.ensures) c.loop-index.invariant))
+    sym (ap (told n) (failing_map (ends_before n) places_of c.args.rows.now ∙ passed_failing (good n) c.args.rows.now c.loop-index.index unset c.loop-index-test.true (sym c.if-not-ends_before.ensures) c.loop-index.invariant))
 
 pub loop-index-preserved : goal.loop-index-preserved
-loop-index-preserved c = passed_more (good c.args.n) c.args.rows.now c.loop-index.index unset c.loop-index-test.true (sym c.if-not-ends-before.ensures) c.loop-index.invariant
+loop-index-preserved c = passed_more (good c.args.n) c.args.rows.now c.loop-index.index unset c.loop-index-test.true (sym c.if-not-ends_before.ensures) c.loop-index.invariant
 
 pub returns : goal.returns
 returns c =

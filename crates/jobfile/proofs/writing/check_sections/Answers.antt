@@ -6,8 +6,8 @@ use Rattle.jobfile.specs.RowPlaces.{places_of}
 use Rattle.jobfile.proofs.JobFacts.{count_readings, job_small}
 use Rattle.jobfile.proofs.writing.check_sections.Goals as goal
 
-pub check-rows-requires : goal.check-rows-requires
-check-rows-requires c =
+pub check_rows-requires : goal.check_rows-requires
+check_rows-requires c =
     let job = c.args.job.now in
     let s = job_small (contents job) c.requires in
     record {

@@ -6,4 +6,4 @@ use Rattle.jobfile.proofs.writing.has_good_numbers.Goals as goal
 pub returns : goal.returns
 returns c =
     let job = c.args.job.now in
-    c.are-good.ensures ∙ ap₂ (λ (n k : ℕ). good_numbers n k job.guessed job.limit) (c.len.ensures ∙ count_readings job) (c.len-2.ensures ∙ count_rows job)
+    c.are_good.ensures ∙ ap₂ (λ (n k : ℕ). good_numbers n k job.guessed job.limit) (c.len.ensures ∙ count_readings job) (c.len-2.ensures ∙ count_rows job)

@@ -12,35 +12,35 @@ use Rattle.jobfile.specs.Pasted.{pasted}
 use Rattle.jobfile.proofs.JobFacts.{holdable, sections_size, count_readings, file_put}
 use Rattle.jobfile.proofs.writing.put_job.Goals as goal
 
-pub put-readings-requires : goal.put-readings-requires
-put-readings-requires c =
+pub put_readings-requires : goal.put_readings-requires
+put_readings-requires c =
     let job = c.args.job.now in
     record {
       space = omega (arith, sections_size job c.requires.good, ap length c.deref.ensures.value, count_readings job, c.requires.space);
       good = ap (first_failing is_good) c.deref.ensures.value ∙ (holdable (contents job) c.requires.good).heard;
     }
 
-pub put-rows-requires : goal.put-rows-requires
-put-rows-requires c =
+pub put_rows-requires : goal.put_rows-requires
+put_rows-requires c =
     let job = c.args.job.now in
-    omega (arith, sections_size job c.requires.good, c.deref-2.ensures.len, c.len.ensures, c.requires.space, c.put-readings.auto.out)
+    omega (arith, sections_size job c.requires.good, c.deref-2.ensures.len, c.len.ensures, c.requires.space, c.put_readings.auto.out)
 
-pub trailer-for-requires : goal.trailer-for-requires
-trailer-for-requires c = (holdable (contents c.args.job.now) c.requires.good).numbered
+pub trailer_for-requires : goal.trailer_for-requires
+trailer_for-requires c = (holdable (contents c.args.job.now) c.requires.good).numbered
 
 pub put-requires : goal.put-requires
-put-requires c = omega (arith, c.sections-len.ensures.value, ap length c.to-bytes.ensures, c.requires.space, c.put-readings.auto.out, c.put-rows.auto.out)
+put-requires c = omega (arith, c.sections_len.ensures.value, ap length c.to_bytes.ensures, c.requires.space, c.put_readings.auto.out, c.put_rows.auto.out)
 
 pub returns : goal.returns
 returns c =
     let job = c.args.job.now in
     record {
       bytes =
-          file_put (contents job) (9 * c.len.result) c.sections-len.result c.args.out.now c.put-readings.new.out c.put-rows.new.out c.put.new.out
+          file_put (contents job) (9 * c.len.result) c.sections_len.result c.args.out.now c.put_readings.new.out c.put_rows.new.out c.put.new.out
           (ap (λ (n : ℕ). 9 * n) (c.len.ensures ∙ count_readings job))
-          c.sections-len.ensures.value
-          (c.put-readings.ensures.bytes ∙ ap (λ (xs : List Reading). pasted 0 (flat_map record_of xs) c.args.out.now) c.deref.ensures.value)
-          (c.put-rows.ensures ∙ ap (λ (hs : List Halves). pasted (9 * c.len.result) (flat_map (packed 16) (map places_of hs)) c.put-readings.new.out) c.deref-2.ensures.value)
-          (c.put.ensures ∙ ap (λ (xs : List ℕ). pasted c.sections-len.result xs c.put-rows.new.out) (c.to-bytes.ensures ∙ ap trailer_bytes c.trailer-for.ensures));
-      held = subst AllHeld c.deref.ensures.value c.put-readings.ensures.held;
+          c.sections_len.ensures.value
+          (c.put_readings.ensures.bytes ∙ ap (λ (xs : List Reading). pasted 0 (flat_map record_of xs) c.args.out.now) c.deref.ensures.value)
+          (c.put_rows.ensures ∙ ap (λ (hs : List Halves). pasted (9 * c.len.result) (flat_map (packed 16) (map places_of hs)) c.put_readings.new.out) c.deref-2.ensures.value)
+          (c.put.ensures ∙ ap (λ (xs : List ℕ). pasted c.sections_len.result xs c.put_rows.new.out) (c.to_bytes.ensures ∙ ap trailer_bytes c.trailer_for.ensures));
+      held = subst AllHeld c.deref.ensures.value c.put_readings.ensures.held;
     }

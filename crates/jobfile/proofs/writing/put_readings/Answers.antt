@@ -13,7 +13,7 @@ use Rattle.jobfile.proofs.writing.put_readings.Goals as goal
 pub unreachable-requires : goal.unreachable-requires
 unreachable-requires c =
     let x = get_or c.args.readings.now c.loop-index.index Dropout in
-    bad_record (is_good x) (record_of x) c.in-default.field-0 (each_passes is_good c.args.readings.now c.loop-index.index Dropout c.requires.good c.loop-index-test.true) c.in-default.ensures.value
+    bad_record (is_good x) (record_of x) c.in_default.field-0 (each_passes is_good c.args.readings.now c.loop-index.index Dropout c.requires.good c.loop-index-test.true) c.in_default.ensures.value
 
 pub loop-index-preserved : goal.loop-index-preserved
 loop-index-preserved c =

@@ -12,8 +12,8 @@ loop-index-init c = sym (pasted_none c.args.at c.args.out.now)
 pub loop-index-preserved : goal.loop-index-preserved
 loop-index-preserved c =
     c.put-in-loop-index.ensures
-    ∙ ap (λ (xs : List ℕ). pasted (c.args.at + 16 * c.loop-index.index + 8) c.half-bytes-in-loop-index.result xs) c.put.ensures
-    ∙ rows_next c.args.rows.now c.loop-index.index c.args.at c.half_bytes.result c.half-bytes-in-loop-index.result c.args.out.now c.loop-index.out c.loop-index-test.true (omega arith) (omega (arith, c.loop-index.auto.out)) c.half_bytes.ensures c.half-bytes-in-loop-index.ensures c.loop-index.invariant
+    ∙ ap (λ (xs : List ℕ). pasted (c.args.at + 16 * c.loop-index.index + 8) c.half_bytes-in-loop-index.result xs) c.put.ensures
+    ∙ rows_next c.args.rows.now c.loop-index.index c.args.at c.half_bytes.result c.half_bytes-in-loop-index.result c.args.out.now c.loop-index.out c.loop-index-test.true (omega arith) (omega (arith, c.loop-index.auto.out)) c.half_bytes.ensures c.half_bytes-in-loop-index.ensures c.loop-index.invariant
 
 pub returns : goal.returns
 returns c =

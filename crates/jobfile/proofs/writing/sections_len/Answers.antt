@@ -2,11 +2,11 @@ use Rattle.std.proofs.Common.{arith}
 use Rattle.jobfile.proofs.JobFacts.{few_readings, few_rows, sections_size}
 use Rattle.jobfile.proofs.writing.sections_len.Goals as goal
 
-pub overflow-mul-result-2 : goal.overflow-mul-result-2
-overflow-mul-result-2 c = omega (arith, few_rows c.args.job.now c.requires)
+pub overflow_mul-result-2 : goal.overflow_mul-result-2
+overflow_mul-result-2 c = omega (arith, few_rows c.args.job.now c.requires)
 
-pub overflow-add-result : goal.overflow-add-result
-overflow-add-result c = omega (arith, few_readings c.args.job.now c.requires, few_rows c.args.job.now c.requires)
+pub overflow_add-result : goal.overflow_add-result
+overflow_add-result c = omega (arith, few_readings c.args.job.now c.requires, few_rows c.args.job.now c.requires)
 
 pub returns : goal.returns
 returns c = record {

@@ -4,8 +4,8 @@ use Rattle.jobfile.specs.declared.trailers.Trailer.{Trailer}
 use Rattle.jobfile.proofs.JobFacts.{count_readings, count_rows, job_small}
 use Rattle.jobfile.proofs.writing.trailer_for.Goals as goal
 
-pub overflow-cast-result-2 : goal.overflow-cast-result-2
-overflow-cast-result-2 c =
+pub overflow_cast-result-2 : goal.overflow_cast-result-2
+overflow_cast-result-2 c =
     let job = c.args.job.now in
     let s = job_small (contents job) c.requires in
     omega (arith, s.few, count_rows job, c.len.ensures)

@@ -6,15 +6,15 @@ use Rattle.rules.specs.Steps.{nth_or}
 use Rattle.rules.proofs.Walks.{walked-barred, walked_more, walked-ends, walked-stays, walk-weighs}
 use Rattle.rules.proofs.weigh.weigh.Goals as goal
 
-pub returns-in-err-step : goal.returns-in-err-step
-returns-in-err-step g c h =
+pub returns-in_err-step : goal.returns-in_err-step
+returns-in_err-step g c h =
     let r = c.args.rule.now in
     let t = g.R.Rule.trellis r in
     let m = g.R.Cost.Weight.model in
     let bs = places c.args.pattern.now.bits in
-    let flip = c.unwrap-or-flip.ensures ∙ ap (λ o. unwrap_or o false) c.bit.ensures ∙ nth_or bs c.loop-place.place false in
-    let barred = walked-barred m t bs c.loop-place.place c.loop-place.state (g.R.Cost.Weight.value c.loop-place.sum) c.unwrap-or-flip.result (omega arith) flip (c.loop-place.invariant h) (c.in-err-step.ensures h) in
-    ap (option_map g.R.Cost.Weight.value) c.from-residual.ensures ∙ ap (option_map (worth m)) (sym barred)
+    let flip = c.unwrap_or-flip.ensures ∙ ap (λ o. unwrap_or o false) c.bit.ensures ∙ nth_or bs c.loop-place.place false in
+    let barred = walked-barred m t bs c.loop-place.place c.loop-place.state (g.R.Cost.Weight.value c.loop-place.sum) c.unwrap_or-flip.result (omega arith) flip (c.loop-place.invariant h) (c.in_err-step.ensures h) in
+    ap (option_map g.R.Cost.Weight.value) c.from_residual.ensures ∙ ap (option_map (worth m)) (sym barred)
     ∙ walk-weighs m t bs (g.R.Rule.admits r) (g.R.Rule.prices r) (g.met.R.Rule.meaning r h) (omega arith)
 
 pub loop-place-preserved : goal.loop-place-preserved
@@ -24,25 +24,25 @@ loop-place-preserved g c h =
     let m = g.R.Cost.Weight.model in
     let bs = places c.args.pattern.now.bits in
     let value = g.R.Cost.Weight.value in
-    let flip = c.unwrap-or-flip.ensures ∙ ap (λ o. unwrap_or o false) c.bit.ensures ∙ nth_or bs c.loop-place.place false in
-    walked_more m t bs c.loop-place.place c.loop-place.state (value c.loop-place.sum) c.unwrap-or-flip.result (omega arith) flip (c.loop-place.invariant h)
-    g.met.R.Cost.Weight.laws h (g.R.Rule.admits r) (g.R.Rule.prices r) (g.met.R.Rule.meaning r h) c.in-ok-step.step.next (value c.in-ok-step.step.cost) (value c.plus-sum.result)
-    (c.in-ok-step.ensures h) c.plus-sum.ensures
+    let flip = c.unwrap_or-flip.ensures ∙ ap (λ o. unwrap_or o false) c.bit.ensures ∙ nth_or bs c.loop-place.place false in
+    walked_more m t bs c.loop-place.place c.loop-place.state (value c.loop-place.sum) c.unwrap_or-flip.result (omega arith) flip (c.loop-place.invariant h)
+    g.met.R.Cost.Weight.laws h (g.R.Rule.admits r) (g.R.Rule.prices r) (g.met.R.Rule.meaning r h) c.in_ok-step.step.next (value c.in_ok-step.step.cost) (value c.plus-sum.result)
+    (c.in_ok-step.ensures h) c.plus-sum.ensures
 
-pub returns-then-is-end : goal.returns-then-is-end
-returns-then-is-end g c h =
+pub returns-then-is_end : goal.returns-then-is_end
+returns-then-is_end g c h =
     let r = c.args.rule.now in
     let t = g.R.Rule.trellis r in
     let m = g.R.Cost.Weight.model in
     let bs = places c.args.pattern.now.bits in
-    sym (walked-ends m t bs c.loop-place.place c.loop-place.state (g.R.Cost.Weight.value c.loop-place.sum) (omega arith) (c.loop-place.invariant h) (c.if-is-end.ensures h))
+    sym (walked-ends m t bs c.loop-place.place c.loop-place.state (g.R.Cost.Weight.value c.loop-place.sum) (omega arith) (c.loop-place.invariant h) (c.if-is_end.ensures h))
     ∙ walk-weighs m t bs (g.R.Rule.admits r) (g.R.Rule.prices r) (g.met.R.Rule.meaning r h) (omega arith)
 
-pub returns-else-is-end : goal.returns-else-is-end
-returns-else-is-end g c h =
+pub returns-else-is_end : goal.returns-else-is_end
+returns-else-is_end g c h =
     let r = c.args.rule.now in
     let t = g.R.Rule.trellis r in
     let m = g.R.Cost.Weight.model in
     let bs = places c.args.pattern.now.bits in
-    ap (option_map (worth m)) (sym (walked-stays m t bs c.loop-place.place c.loop-place.state (g.R.Cost.Weight.value c.loop-place.sum) (omega arith) (c.loop-place.invariant h) (c.if-is-end.ensures h)))
+    ap (option_map (worth m)) (sym (walked-stays m t bs c.loop-place.place c.loop-place.state (g.R.Cost.Weight.value c.loop-place.sum) (omega arith) (c.loop-place.invariant h) (c.if-is_end.ensures h)))
     ∙ walk-weighs m t bs (g.R.Rule.admits r) (g.R.Rule.prices r) (g.met.R.Rule.meaning r h) (omega arith)

@@ -7,7 +7,7 @@ use Rattle.weights.proofs.Worth.{worth-one, worth-sum}
 use Rattle.weights.proofs.price.total.Goals as goal
 
 pub loop-price-init : goal.loop-price-init
-loop-price-init g c = (tt, λ _. c.zero_sum.ensures)
+loop-price-init g c = (tt, λ _. c.zero-sum.ensures)
 
 pub loop-price-preserved : goal.loop-price-preserved
 loop-price-preserved g c =

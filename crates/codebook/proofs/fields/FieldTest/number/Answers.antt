@@ -14,12 +14,12 @@ loop-place-preserved c =
     let e : k + 1 ≡ c.loop-place.place + 1 - first = omega arith in
     let p : first + k ≡ c.loop-place.place = omega arith in
     let h : first + k < length w = omega arith in
-    let b : c.unwrap-or-bit.result ≡ get_or w (first + k) false =
-    c.unwrap-or-bit.ensures ∙ ap (λ (o : Option Bool). unwrap_or o false) c.bit.ensures ∙ sym (get_d_nth w c.loop-place.place) ∙ ap (λ (i : ℕ). get_or w i false) (sym p) in
-    let v = byte_is c.unwrap-or-bit.result c.from.result c.from.ensures in (
-      subst (λ (i : ℕ). 2 * c.loop-place.number + c.from.result < 2 ^ i) e (room_more c.loop-place.number c.from.result k c.loop-place.invariant.0 (bit_le c.unwrap-or-bit.result c.from.result v)),
+    let b : c.unwrap_or-bit.result ≡ get_or w (first + k) false =
+    c.unwrap_or-bit.ensures ∙ ap (λ (o : Option Bool). unwrap_or o false) c.bit.ensures ∙ sym (get_d_nth w c.loop-place.place) ∙ ap (λ (i : ℕ). get_or w i false) (sym p) in
+    let v = byte_is c.unwrap_or-bit.result c.from.result c.from.ensures in (
+      subst (λ (i : ℕ). 2 * c.loop-place.number + c.from.result < 2 ^ i) e (room_more c.loop-place.number c.from.result k c.loop-place.invariant.0 (bit_le c.unwrap_or-bit.result c.from.result v)),
       ap (λ (v : ℕ). 2 * v + c.from.result) c.loop-place.invariant.1
           ∙ ap (λ (x : ℕ). 2 * field_number first k w + x) v
-          ∙ number_more w first k c.unwrap-or-bit.result h b
+          ∙ number_more w first k c.unwrap_or-bit.result h b
           ∙ ap (λ (i : ℕ). field_number first i w) e,
     )

@@ -11,14 +11,14 @@ pub loop-index-preserved : goal.loop-index-preserved
 loop-index-preserved c =
     let rows = table_rows c.args.self.now.table in
     let h : c.loop-index.index < length rows = omega arith in
-    ap₂ ◌&&◌ c.loop-index.invariant c.is-even-even.ensures ∙ even_more rows c.loop-index.index (places c.args.word.now.bits) h
+    ap₂ ◌&&◌ c.loop-index.invariant c.is_even-even.ensures ∙ even_more rows c.loop-index.index (places c.args.word.now.bits) h
 
 pub returns : goal.returns
 returns c =
     let table = c.args.self.now.table in
     let w = places c.args.word.now.bits in
     let l : length (table_rows table) ≤ c.loop-index.index = omega arith in
-    let e : length w ≡ (table_of table).0 = sym c.len.ensures ∙ c.if-len-row-len.false ∙ c.row-len.ensures in
+    let e : length w ≡ (table_of table).0 = sym c.len.ensures ∙ c.if-len-row_len.false ∙ c.row_len.ensures in
     c.loop-index.invariant
     ∙ ap (λ (rows : List (List Bool)). even_over rows w) (take_all c.loop-index.index (table_rows table) l)
     ∙ ap (λ (b : Bool). b && even_over (table_rows table) w) (sym (eq-eqb (length w) (table_of table).0 e))

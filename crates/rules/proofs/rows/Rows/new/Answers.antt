@@ -13,14 +13,14 @@ returns-then-rows-gt-MOST g c =
     let n = length_spelled b.len b.first b.second in
     record { table = ap refused (sym (rows_many (length (places b)) c.args.rows.now (omega (arith, b.some)) (omega (arith, b.most)) c.if-rows-gt-MOST.true)); parts = tt }
 
-pub columns-of-requires : goal.columns-of-requires
-columns-of-requires g c = omega (arith, table_length c.len.result c.args.rows.now (table_of c.in-ok-table.table) c.in-ok-table.ensures)
+pub columns_of-requires : goal.columns_of-requires
+columns_of-requires g c = omega (arith, table_length c.len.result c.args.rows.now (table_of c.in_ok-table.table) c.in_ok-table.ensures)
 
-pub word-parities-goal-requires : goal.word-parities-goal-requires
-word-parities-goal-requires g c = omega (arith, table_length c.len.result c.args.rows.now (table_of c.in-ok-table.table) c.in-ok-table.ensures)
+pub word_parities-goal-requires : goal.word_parities-goal-requires
+word_parities-goal-requires g c = omega (arith, table_length c.len.result c.args.rows.now (table_of c.in_ok-table.table) c.in_ok-table.ensures)
 
-pub invariant-of-result : goal.invariant-of-result
-invariant-of-result g c = (
-  omega (arith, table_length c.len.result c.args.rows.now (table_of c.in-ok-table.table) c.in-ok-table.ensures),
-  (c.in-ok-columns.ensures ∙ ap (λ n. columns_of n (table_rows c.in-ok-table.table)) c.len-2.ensures, (c.word-parities-goal.ensures, tt)),
+pub invariant_of-result : goal.invariant_of-result
+invariant_of-result g c = (
+  omega (arith, table_length c.len.result c.args.rows.now (table_of c.in_ok-table.table) c.in_ok-table.ensures),
+  (c.in-ok-columns.ensures ∙ ap (λ n. columns_of n (table_rows c.in_ok-table.table)) c.len-2.ensures, (c.word_parities-goal.ensures, tt)),
 )

@@ -6,7 +6,7 @@ use Rattle.rules.proofs.rows.columns.is_marked.Goals as goal
 
 pub returns-in-Some : goal.returns-in-Some
 returns-in-Some c =
-    c.unwrap-or.ensures ∙ ap (λ o. unwrap_or o false) c.bit.ensures ∙ nth_or (places c.in-Some.row.bits) c.args.place false
+    c.unwrap_or.ensures ∙ ap (λ o. unwrap_or o false) c.bit.ensures ∙ nth_or (places c.in-Some.row.bits) c.args.place false
     ∙ ap (λ l. get_or l c.args.place false) (ap (λ o. unwrap_or o []) c.in-Some.ensures ∙ nth_or (table_rows c.args.table.now) c.args.index [])
 
 pub returns-in-None : goal.returns-in-None

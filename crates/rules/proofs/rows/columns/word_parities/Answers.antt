@@ -9,11 +9,11 @@ use Rattle.rules.proofs.rows.columns.word_parities.Goals as goal
 pub loop-index-init : goal.loop-index-init
 loop-index-init c = packed_start (λ row. is_odd (overlap (places c.args.word.now.bits) row)) (table_rows c.args.table.now) c.len-index.result (omega arith)
 
-pub overflow-mul-bits : goal.overflow-mul-bits
-overflow-mul-bits c = let l = packed-room (λ row. is_odd (overlap (places c.args.word.now.bits) row)) (table_rows c.args.table.now) c.loop-index.index c.loop-index.bits 0 false (omega arith) c.loop-index.invariant refl c.requires in omega arith
+pub overflow_mul-bits : goal.overflow_mul-bits
+overflow_mul-bits c = let l = packed-room (λ row. is_odd (overlap (places c.args.word.now.bits) row)) (table_rows c.args.table.now) c.loop-index.index c.loop-index.bits 0 false (omega arith) c.loop-index.invariant refl c.requires in omega arith
 
-pub overflow-add-bits : goal.overflow-add-bits
-overflow-add-bits c = let l = packed-room (λ row. is_odd (overlap (places c.args.word.now.bits) row)) (table_rows c.args.table.now) c.loop-index.index c.loop-index.bits c.from.result c.is-odd.result (omega arith) c.loop-index.invariant c.from.ensures c.requires in omega arith
+pub overflow_add-bits : goal.overflow_add-bits
+overflow_add-bits c = let l = packed-room (λ row. is_odd (overlap (places c.args.word.now.bits) row)) (table_rows c.args.table.now) c.loop-index.index c.loop-index.bits c.from.result c.is_odd.result (omega arith) c.loop-index.invariant c.from.ensures c.requires in omega arith
 
 pub loop-index-preserved : goal.loop-index-preserved
-loop-index-preserved c = packed_more (λ row. is_odd (overlap (places c.args.word.now.bits) row)) (table_rows c.args.table.now) c.loop-index.index c.loop-index.bits c.from.result c.is-odd.result (omega arith) c.loop-index.invariant c.from.ensures [] (omega arith) c.is-odd.ensures
+loop-index-preserved c = packed_more (λ row. is_odd (overlap (places c.args.word.now.bits) row)) (table_rows c.args.table.now) c.loop-index.index c.loop-index.bits c.from.result c.is_odd.result (omega arith) c.loop-index.invariant c.from.ensures [] (omega arith) c.is_odd.ensures
