@@ -11,6 +11,6 @@ check_rows-requires c =
     let job = c.args.job.now in
     let s = job_small (contents job) c.requires in
     record {
-      measured = ap is_length (c.len.ensures ∙ count_readings job) ∙ s.decreases;
+      measured = ap is_length (c.len.ensures ∙ count_readings job) ∙ s.measured;
       few = omega (arith, s.few, ap length c.deref-2.ensures.value, length-map (vec_items job.rows) places_of);
     }

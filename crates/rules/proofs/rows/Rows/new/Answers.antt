@@ -20,7 +20,8 @@ pub word_parities-goal-requires : goal.word_parities-goal-requires
 word_parities-goal-requires g c = omega (arith, table_length c.len.result c.args.rows.now (table_of c.in_ok-table.table) c.in_ok-table.ensures)
 
 pub invariant_of-result : goal.invariant_of-result
-invariant_of-result g c = (
-  omega (arith, table_length c.len.result c.args.rows.now (table_of c.in_ok-table.table) c.in_ok-table.ensures),
-  (c.in-ok-columns.ensures ∙ ap (λ n. columns_of n (table_rows c.in_ok-table.table)) c.len-2.ensures, (c.word_parities-goal.ensures, tt)),
-)
+invariant_of-result g c = record {
+  few = omega (arith, table_length c.len.result c.args.rows.now (table_of c.in_ok-table.table) c.in_ok-table.ensures);
+  cut = c.in_ok-columns.ensures ∙ ap (λ n. columns_of n (table_rows c.in_ok-table.table)) c.len-2.ensures;
+  aimed = c.word_parities-goal.ensures;
+}
