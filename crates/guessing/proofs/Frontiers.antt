@@ -7,7 +7,7 @@ use Rattle.std.proofs.lemmas.List.{take_at}
 use Rattle.std.proofs.lemmas.List.Sorted.{sum_by-IsPermutation}
 use Rattle.std.proofs.lemmas.List.Sums.{sum_by-cons}
 use Rattle.std.proofs.lemmas.Bool.{cases_Bool, and_parts, and_from}
-use Rattle.std.specs.List.{AllByRecursion as All}
+use Rattle.std.specs.List.{AllByRecursion}
 use Rattle.std.specs.List.Sorted.{IsPermutation}
 use Rattle.weights.specs.Laws.{Laws}
 use Rattle.weights.specs.Model.{Model}
@@ -54,7 +54,7 @@ module _ {V : Type 0} (m : Model V) (P : Patterns) where
   self_holds b w = and_from (P.admits b.bits) (begins (stem b) b.bits) w.admitted (begins_take b.depth b.bits)
 
   -- what is counted in a sorted list does not come before its head
-  head_first : (h x : List Bool) (l : List (List Bool)) → sooner m P x x ≡ true → All (λ y. sooner m P h y ≡ true) l → 0 < count (same x) (h ∷ l) → sooner m P h x ≡ true
+  head_first : (h x : List Bool) (l : List (List Bool)) → sooner m P x x ≡ true → AllByRecursion (λ y. sooner m P h y ≡ true) l → 0 < count (same x) (h ∷ l) → sooner m P h x ≡ true
   head_first h x l r s c = elim (cases_Bool (same x h)) [
     | inl e ↦ subst (λ (y : List Bool). sooner m P y x ≡ true) (same_eq x h e) r
     | inr e ↦ (let f = find (λ y. sooner m P h y ≡ true) (same x) l s (omega (arith, rw e at c)) in subst (λ (y : List Bool). sooner m P h y ≡ true) (sym (same_eq x f.0 f.2)) f.1)
@@ -70,12 +70,12 @@ module _ {V : Type 0} (m : Model V) (P : Patterns) where
       go false false es et = refl
 
   module _ (laws : Laws m) (pd : Priced P) where
-    module _ (b : Cylinder) (queue : List Cylinder) (well : All (Well m P) (b ∷ queue)) (least : All (λ c. sooner m P b.bits c.bits ≡ true) queue) where
+    module _ (b : Cylinder) (queue : List Cylinder) (well : AllByRecursion (Well m P) (b ∷ queue)) (least : AllByRecursion (λ c. sooner m P b.bits c.bits ≡ true) queue) where
       itself : sooner m P b.bits b.bits ≡ true
       itself = well.0.least b.bits well.0.full (self_holds b well.0)
 
       -- the pattern of a branch that is first is the first of what is left
-      next : (l : List (List Bool)) → Sorted (sooner m P) l → All (λ x. (length x ≡ P.places) × (P.admits x ≡ true)) l
+      next : (l : List (List Bool)) → Sorted (sooner m P) l → AllByRecursion (λ x. (length x ≡ P.places) × (P.admits x ≡ true)) l
           → ((x : List Bool) → length x ≡ P.places → count (holds P x) (b ∷ queue) ≡ count (same x) l) → (rest : List (List Bool)) × (l ≡ b.bits ∷ rest)
       next [] s g once = absurd (omega (arith, once b.bits well.0.full, ap tally (self_holds b well.0)))
       next (h ∷ rest) s g once =
@@ -90,10 +90,10 @@ module _ {V : Type 0} (m : Model V) (P : Patterns) where
 module _ {V : Type 0} (m : Model V) (t : Trellis) (adm : List Bool → Bool) (pr : List Bool → List Price) where
   module _ (laws : Laws m) (has : HasMeaning t) (law : Lawful t adm pr) where
     -- the branch of what begins with p has its first pattern at hand
-    branch-well : (p : List Bool) → length p ≤ t.places → All (Well m (patterns_of t adm pr)) (branch p (complete m t p))
+    branch-well : (p : List Bool) → length p ≤ t.places → AllByRecursion (Well m (patterns_of t adm pr)) (branch p (complete m t p))
     branch-well p l = go (complete m t p) (complete-least m laws t has law.fair p l)
       where
-        go : (o : Option Ending) → Best m (walked t) (Starts p (t.places - length p)) o → All (Well m (patterns_of t adm pr)) (branch p o)
+        go : (o : Option Ending) → Best m (walked t) (Starts p (t.places - length p)) o → AllByRecursion (Well m (patterns_of t adm pr)) (branch p o)
         go None h = tt
         go (Some a) h =
             let full = starts_full t.places p a.bits l h.inside in (
@@ -136,7 +136,7 @@ module _ {V : Type 0} (m : Model V) (t : Trellis) (adm : List Bool → Bool) (pr
         let e : tally (adm x && same x ((p ++ b ∷ []) ++ y)) ≡ tally (adm x && same x (p ++ b ∷ y)) = rw append_assoc in
         omega (arith, i, j, k, c, e)
 
-    partings-well : (y p : List Bool) → length p + length y ≡ t.places → All (Well m (patterns_of t adm pr)) (partings m t p y)
+    partings-well : (y p : List Bool) → length p + length y ≡ t.places → AllByRecursion (Well m (patterns_of t adm pr)) (partings m t p y)
     partings-well [] p l = tt
     partings-well (b ∷ y) p l =
         All-append (Well m (patterns_of t adm pr)) (branch (p ++ not b ∷ []) (complete m t (p ++ not b ∷ []))) (partings m t (p ++ b ∷ []) y)
@@ -151,7 +151,7 @@ module _ {V : Type 0} (m : Model V) (t : Trellis) (adm : List Bool → Bool) (pr
     }
 
     -- the first branch is taken out, and its children go in
-    pub step : (k : ℕ) (b : Cylinder) (queue : List Cylinder) → Frontier m (patterns_of t adm pr) k (b ∷ queue) → All (λ c. sooner m (patterns_of t adm pr) b.bits c.bits ≡ true) queue → Stepped m t (patterns_of t adm pr) k b queue
+    pub step : (k : ℕ) (b : Cylinder) (queue : List Cylinder) → Frontier m (patterns_of t adm pr) k (b ∷ queue) → AllByRecursion (λ c. sooner m (patterns_of t adm pr) b.bits c.bits ≡ true) queue → Stepped m t (patterns_of t adm pr) k b queue
     step k b queue f least =
         let n = next m (patterns_of t adm pr) laws (priced t adm pr has law) b queue f.well least (drop k (guesses m (patterns_of t adm pr))) (sorted_drop (sooner m (patterns_of t adm pr)) k (guesses m (patterns_of t adm pr)) (guess-sorted m (patterns_of t adm pr) laws (priced t adm pr has law)))
         (All-drop (λ x. (length x ≡ t.places) × (adm x ≡ true)) k (guesses m (patterns_of t adm pr)) (guess_good m (patterns_of t adm pr))) f.once in
@@ -174,7 +174,7 @@ module _ {V : Type 0} (m : Model V) (t : Trellis) (adm : List Bool → Bool) (pr
     pub empty-none : (k : ℕ) → Frontier m (patterns_of t adm pr) k [] → drop k (guesses m (patterns_of t adm pr)) ≡ []
     empty-none k f = go (drop k (guesses m (patterns_of t adm pr))) (All-drop (λ x. (length x ≡ t.places) × (adm x ≡ true)) k (guesses m (patterns_of t adm pr)) (guess_good m (patterns_of t adm pr))) f.once
       where
-        go : (l : List (List Bool)) → All (λ x. (length x ≡ t.places) × (adm x ≡ true)) l → ((x : List Bool) → length x ≡ t.places → 0 ≡ count (same x) l) → l ≡ []
+        go : (l : List (List Bool)) → AllByRecursion (λ x. (length x ≡ t.places) × (adm x ≡ true)) l → ((x : List Bool) → length x ≡ t.places → 0 ≡ count (same x) l) → l ≡ []
         go [] g once = refl
         go (h ∷ l) g once = absurd (omega (arith, once h g.0.0, ap tally (same_refl h)))
 
@@ -187,7 +187,7 @@ count_sum p [] = refl
 count_sum p (x ∷ l) = ap (λ n. tally (p x) + n) (count_sum p l) ∙ sym (sum_by-cons (λ x. tally (p x)) x l)
 
 module _ {V : Type 0} (m : Model V) (P : Patterns) where
-  pub frontier_same : (k : ℕ) (queue other : List Cylinder) → All (Well m P) other → ((p : Cylinder → Bool) → count p other ≡ count p queue) → Frontier m P k queue → Frontier m P k other
+  pub frontier_same : (k : ℕ) (queue other : List Cylinder) → AllByRecursion (Well m P) other → ((p : Cylinder → Bool) → count p other ≡ count p queue) → Frontier m P k queue → Frontier m P k other
   frontier_same k queue other w c f = record { well = w; once = λ x lx. c (holds P x) ∙ f.once x lx }
 
   -- the order of the queue does not matter

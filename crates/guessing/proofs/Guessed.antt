@@ -2,7 +2,7 @@
 use Rattle.std.proofs.Common.{◌≡◌, ℕ, zero, suc, ◌+◌, Bool, true, false, cond, List, [], ◌∷◌, map, length, filter, sym, refl, ap, ◌∙◌, ap₂, true≢false, arith}
 use mathlib.Core.Bool.{beq}
 use Rattle.std.proofs.ByRecursion.{All-append, All-map, All-weaker}
-use Rattle.std.specs.List.{AllByRecursion as All}
+use Rattle.std.specs.List.{AllByRecursion}
 use Rattle.weights.specs.Laws.{Laws}
 use Rattle.weights.specs.Model.{Model}
 use Rattle.guessing.specs.Branches.{same, count, tally}
@@ -49,7 +49,7 @@ count_filter q x (y ∷ l) = go (q y) refl (q x) refl (same x y) refl (count_fil
     go false es true et false eu i = omega (arith, rw et at i)
     go false es false et u eu i = omega (arith, rw et at i)
 
-all_all : (n : ℕ) → All (λ x. length x ≡ n) (all n)
+all_all : (n : ℕ) → AllByRecursion (λ x. length x ≡ n) (all n)
 all_all zero = (refl, tt)
 all_all (suc n) =
     All-append (λ x. length x ≡ suc n) (map (λ y. false ∷ y) (all n)) (map (λ y. true ∷ y) (all n))
@@ -65,7 +65,7 @@ module _ {V : Type 0} (m : Model V) (P : Patterns) where
       ∙ ap (λ n. cond (P.admits x) n 0) (count_all P.places x h)
       ∙ elim (P.admits x) as (λ t. ◌≡◌ {A = ℕ} (cond t 1 0) (tally t)) [ true ↦ refl | false ↦ refl ]
 
-  pub guess_good : All (λ x. (length x ≡ P.places) × (P.admits x ≡ true)) (guesses m P)
+  pub guess_good : AllByRecursion (λ x. (length x ≡ P.places) × (P.admits x ≡ true)) (guesses m P)
   guess_good =
       all_sort (λ x. (length x ≡ P.places) × (P.admits x ≡ true)) (sooner m P) (filter P.admits (all P.places))
       (all_filter (λ x. length x ≡ P.places) P.admits (all P.places) (all_all P.places))

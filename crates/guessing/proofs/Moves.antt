@@ -1,7 +1,7 @@
 -- What exchanges among the first places of a list leave.
 use Rattle.std.proofs.Common.{◌≡◌, ℕ, zero, suc, ◌+◌, ◌-◌, ◌<◌, ◌≤◌, List, [], ◌∷◌, ◌++◌, length, get_or, take, drop, set, sym, refl, ap, ◌∙◌, subst, add-zero, arith, length-set}
 use Rattle.std.specs.List.Sorted.{IsPermutation}
-use Rattle.std.specs.List.{AllByRecursion as All}
+use Rattle.std.specs.List.{AllByRecursion}
 use Rattle.std.proofs.lemmas.List.{get_or-take, get_or-drop, length-take-le, drop-set-lt, drop-drop, take-take, take_more, take_more_set}
 use Rattle.std.proofs.lemmas.List.Edits.{swap_is}
 use Rattle.std.proofs.lemmas.List.Sorted.{IsPermutation-refl, IsPermutation-sym, IsPermutation-trans, IsPermutation-swap, IsPermutation-cons, IsPermutation-to_front}
@@ -42,28 +42,28 @@ module _ {X : Type 0} where
   moved_swap n (x ∷ xs) ys i j le ni nj e = moved_set n (x ∷ xs) ys i j x le ni nj (e x)
 
   -- what holds of each of the first n before holds of each after
-  pub moved_all : (P : X → Type 0) (n : ℕ) (xs ys : List X) → Moved n xs ys → All P (take n xs) → All P (take n ys)
+  pub moved_all : (P : X → Type 0) (n : ℕ) (xs ys : List X) → Moved n xs ys → AllByRecursion P (take n xs) → AllByRecursion P (take n ys)
   moved_all P n xs ys m h = all_shuffled P _ _ m.shuffled h
 
-  pub all_at : (P : X → Type 0) (n : ℕ) (xs : List X) (k : ℕ) (d : X) → n ≤ length xs → k < n → All P (take n xs) → P (get_or xs k d)
+  pub all_at : (P : X → Type 0) (n : ℕ) (xs : List X) (k : ℕ) (d : X) → n ≤ length xs → k < n → AllByRecursion P (take n xs) → P (get_or xs k d)
   all_at P n xs k d le h a =
       let long : length (take n xs) ≡ n = length-take-le n xs le in
       subst P (get_or-take n xs k d h) (All-get_or P (take n xs) k d (omega arith) a)
 
-  pub all_of : (P : X → Type 0) (n : ℕ) (xs : List X) (d : X) → n ≤ length xs → ((k : ℕ) → k < n → P (get_or xs k d)) → All P (take n xs)
+  pub all_of : (P : X → Type 0) (n : ℕ) (xs : List X) (d : X) → n ≤ length xs → ((k : ℕ) → k < n → P (get_or xs k d)) → AllByRecursion P (take n xs)
   all_of P n xs d le h =
       let long : length (take n xs) ≡ n = length-take-le n xs le in
       All-from_get_or P (take n xs) d (λ k a. let b : k < n = omega arith in subst P (sym (get_or-take n xs k d b)) (h k b))
 
-  pub all_fewer : (P : X → Type 0) (m n : ℕ) (xs : List X) → m ≤ n → All P (take n xs) → All P (take m xs)
-  all_fewer P m n xs le h = subst (All P) (take-take m n xs le) (All-take P m (take n xs) h)
+  pub all_fewer : (P : X → Type 0) (m n : ℕ) (xs : List X) → m ≤ n → AllByRecursion P (take n xs) → AllByRecursion P (take m xs)
+  all_fewer P m n xs le h = subst (AllByRecursion P) (take-take m n xs le) (All-take P m (take n xs) h)
 
   -- what `push` does before its loop
   pub put_shuffled : (n : ℕ) (xs zs : List X) (b : X) → n < length xs → Moved (n + 1) (set xs n b) zs → IsPermutation (b ∷ take n xs) (take (n + 1) zs)
   put_shuffled n xs zs b lt m = IsPermutation-trans _ _ _ (IsPermutation-sym _ _ (IsPermutation-to_front (take n xs) b)) (subst (λ l. IsPermutation l (take (n + 1) zs)) (take_more_set xs n b lt) m.shuffled)
 
-  pub put_all : (P : X → Type 0) (n : ℕ) (xs : List X) (b : X) → n < length xs → All P (take n xs) → P b → All P (take (n + 1) (set xs n b))
-  put_all P n xs b lt h p = subst (All P) (sym (take_more_set xs n b lt)) (All-push P (take n xs) b h p)
+  pub put_all : (P : X → Type 0) (n : ℕ) (xs : List X) (b : X) → n < length xs → AllByRecursion P (take n xs) → P b → AllByRecursion P (take (n + 1) (set xs n b))
+  put_all P n xs b lt h p = subst (AllByRecursion P) (sym (take_more_set xs n b lt)) (All-push P (take n xs) b h p)
 
   same_at : (n : ℕ) (ys zs : List X) (d : X) → drop n zs ≡ drop n ys → get_or zs n d ≡ get_or ys n d
   same_at n ys zs d e =

@@ -1,6 +1,6 @@
 -- The turns of the two loops that mend a heap.
 use Rattle.std.proofs.Common.{◌≡◌, ℕ, ◌+◌, ◌-◌, ◌*◌, ◌/◌, ◌<◌, ◌≤◌, Bool, true, false, List, length, get_or, take, set, sym, refl, subst, ⊎_elim, arith, get_or-set_other}
-use Rattle.std.specs.List.{AllByRecursion as All}
+use Rattle.std.specs.List.{AllByRecursion}
 use Rattle.std.proofs.lemmas.List.Edits.{Swapped}
 use Rattle.std.proofs.lemmas.Bool.{cases_eq}
 use Rattle.guessing.specs.Heaps.{Heaped, Moved}
@@ -105,7 +105,7 @@ module _ {V W : Type 0} (m : V → V → Bool) (value : W → V) (promised : W �
   pub hollow_swap : (n : ℕ) (xs ys : List (Branch W)) → Places xs ys 0 n → Heaped (Above m value) (n + 1) xs → Hollow n ys
   hollow_swap n xs ys s h = λ k d z lt. sift.move (Above m value) ((s d).2 ((k - 1) / 2) (omega arith) (omega arith)) ((s d).2 k (omega arith) (omega arith)) (h k d (omega arith) (omega arith))
 
-  pub first : (n : ℕ) (xs : List (Branch W)) (r : Branch W) → 0 < n → n ≤ length xs → r ≡ get_or xs 0 r → Kept promised n xs → Heaped (Above m value) n xs → All (Above m value r) (take n xs)
+  pub first : (n : ℕ) (xs : List (Branch W)) (r : Branch W) → 0 < n → n ≤ length xs → r ≡ get_or xs 0 r → Kept promised n xs → Heaped (Above m value) n xs → AllByRecursion (Above m value r) (take n xs)
   first n xs r z le e kept h =
       let g : (k : ℕ) → k < n → promised (get_or xs k r).weight = λ k lt. good n xs xs k r le lt (moved_none n xs) kept in
       all_of (Above m value r) n xs r le (λ k lt. sift.move (Above m value) e refl (sift.top O chain (λ i. get_or xs i r) n (over_same m value promised ranks _ (g 0 z)) (λ i a b. (g _ (omega arith), g i b, h i r a b)) k k (omega arith) lt).2)

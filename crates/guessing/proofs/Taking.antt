@@ -12,7 +12,7 @@ use Rattle.std.proofs.ByRecursion.{all_shuffled}
 use Rattle.std.proofs.lemmas.Bool.{and_from, both_ways, cases_lt, le-leb, lt-leb, ltb-false, ne_eqb}
 use Rattle.std.specs.Option.{option_map}
 use Rattle.std.specs.List.Sorted.{IsPermutation}
-use Rattle.std.specs.List.{AllByRecursion as All, slice_get}
+use Rattle.std.specs.List.{AllByRecursion, slice_get}
 use Rattle.weights.specs.Laws.{Laws}
 use Rattle.weights.specs.Model.{Model}
 use Rattle.weights.specs.declared.price.Price.{Price}
@@ -82,18 +82,18 @@ module _ {V W : Type 0} (m : Model V) (value : W → V) (t : Trellis) (adm : Lis
       (λ e. let sh = has.short in no_later_span x y t.places 0 (omega arith)
       (let f = ltb-false y x e in let ea : x % 2 ^ 128 ≡ x = whole_mod a.flips ta.fits in let eb : y % 2 ^ 128 ≡ y = whole_mod b.flips tb.fits in omega arith)))
 
-  sooner_all : (r : Branch W) (l : List (Branch W)) → Told m value t r → All (Told m value t) l → All (Above m.at_most value r) l
-      → All (λ (c : Cylinder). sooner m (patterns_of t adm pr) (pattern t (whole r.flips)) c.bits ≡ true) (map (mean t) l)
+  sooner_all : (r : Branch W) (l : List (Branch W)) → Told m value t r → AllByRecursion (Told m value t) l → AllByRecursion (Above m.at_most value r) l
+      → AllByRecursion (λ (c : Cylinder). sooner m (patterns_of t adm pr) (pattern t (whole r.flips)) c.bits ≡ true) (map (mean t) l)
   sooner_all r [] k h a = tt
   sooner_all r (b ∷ l) k h a = (above_sooner r b k h.0 a.0, sooner_all r l k h.1 a.1)
 
   module _ (laws : Laws m) (k n : ℕ) (xs ys : List (Branch W)) (r : Branch W) (s : IsPermutation (take n xs) (r ∷ take (n - 1) ys)) (queue : Queue m value t n xs) (frontier : Frontier m (patterns_of t adm pr) k (means t n xs))
       (heap : Kept (promised m value) n xs → Heaped (Above m.at_most value) n xs → Heaped (Above m.at_most value) (n - 1) ys)
-      (first : Kept (promised m value) n xs → Heaped (Above m.at_most value) n xs → All (Above m.at_most value r) (take n xs)) where
+      (first : Kept (promised m value) n xs → Heaped (Above m.at_most value) n xs → AllByRecursion (Above m.at_most value r) (take n xs)) where
     kept : Kept (promised m value) n xs
     kept = queue_kept m value t has law.fair n xs queue
 
-    tolds : Told m value t r × All (Told m value t) (take (n - 1) ys)
+    tolds : Told m value t r × AllByRecursion (Told m value t) (take (n - 1) ys)
     tolds = all_shuffled (Told m value t) (take n xs) (r ∷ take (n - 1) ys) s queue.told
 
     pub popped-told : Told m value t r

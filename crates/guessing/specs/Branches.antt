@@ -2,7 +2,7 @@
 use Rattle.std.specs.Prelude.{◌≡◌, ℕ, suc, ◌+◌, ◌<◌, ◌≤◌, Bool, true, false, not, ◌&&◌, List, [], ◌∷◌, ◌++◌, length, get_or, take, drop, Some, None, Option}
 use Rattle.std.specs.Bool.{beq}
 use Rattle.rules.specs.Trellis.{Trellis}
-use Rattle.std.specs.List.{AllByRecursion as All}
+use Rattle.std.specs.List.{AllByRecursion}
 use Rattle.weights.specs.Model.{Model}
 use Rattle.guessing.specs.Completions.{Ending, complete}
 use Rattle.guessing.specs.Guesses.{guesses, sooner}
@@ -71,7 +71,7 @@ pub record Well {V : Type 0} (m : Model V) (P : Patterns) (b : Cylinder) : Type 
 
 -- After k guesses: each pattern still to come is in exactly one branch, and no other pattern is in any.
 pub record Frontier {V : Type 0} (m : Model V) (P : Patterns) (k : ℕ) (queue : List Cylinder) : Type 0 where
-  pub well : All (Well m P) queue
+  pub well : AllByRecursion (Well m P) queue
   pub once : (x : List Bool) → length x ≡ P.places → count (holds P x) queue ≡ count (same x) (drop k (guesses m P))
 
 -- The first branch b is taken out of the others: its pattern is guess number k from 0, and its children go in.

@@ -1,6 +1,6 @@
 -- The order in which branches leave the heap.
 use Rattle.std.specs.Prelude.{◌≡◌, ℕ, ◌-◌, ◌/◌, ◌<◌, Bool, true, false, cond, List, get_or, take, nat_lt, slice_index_or}
-use Rattle.std.specs.List.{AllByRecursion as All}
+use Rattle.std.specs.List.{AllByRecursion}
 use Rattle.weights.specs.Grade.{Promised}
 use Rattle.weights.specs.Model.{Model}
 use Rattle.guessing.specs.Flips.{whole}
@@ -12,7 +12,7 @@ promised m value w = Promised m (value w)
 
 -- The first n branches have a promised weight.
 abbrev pub Kept : {W : Type 0} → (W → Type 0) → ℕ → List (Branch W) → Type 0
-Kept promised n xs = All (λ b. promised b.weight) (take n xs)
+Kept promised n xs = AllByRecursion (λ b. promised b.weight) (take n xs)
 
 module _ {V W : Type 0} (m : V → V → Bool) (value : W → V) where
   -- a is lighter than b, or as light and its flips are the lower number.

@@ -2,7 +2,7 @@
 use Rattle.std.specs.Prelude.{◌≡◌, ℕ, suc, ◌+◌, ◌-◌, ◌*◌, ◌<◌, ◌≤◌, Bool, true, not, List, [], ◌∷◌, ◌++◌, map, length, take, drop, Some, None, Option}
 use Rattle.rules.specs.Trellis.{Move, Trellis, walked}
 use Rattle.std.specs.List.Sorted.{IsPermutation}
-use Rattle.std.specs.List.{AllByRecursion as All}
+use Rattle.std.specs.List.{AllByRecursion}
 use Rattle.weights.specs.Model.{Model}
 use Rattle.weights.specs.Price.{worth}
 use Rattle.weights.specs.declared.price.Price.{Price}
@@ -50,7 +50,7 @@ module _ {V W : Type 0} (m : Model V) (value : W → V) (t : Trellis) where
   -- The first n are a heap of such branches.
   pub record Queue (n : ℕ) (xs : List (Branch W)) : Type 0 where
     pub heaped : Heaped (Above m.at_most value) n xs
-    pub told : All Told (take n xs)
+    pub told : AllByRecursion Told (take n xs)
 
   -- The flips before place j lead to the state of the walk, at its weight.
   pub record Walked (x j : ℕ) (w : Walk W) : Type 0 where

@@ -3,7 +3,7 @@ ghost use Rattle.std.specs.Prelude.{◌≡◌, ℕ, ◌+◌, ◌-◌, ◌/◌, �
 ghost use Rattle.guessing.specs.Earlier.{earlier, promised, Above, Kept, Tells, Least};
 ghost use Rattle.guessing.specs.Heaps.{Heaped, Moved};
 ghost use Rattle.std.specs.List.Sorted.{IsPermutation};
-ghost use Rattle.std.specs.List.{AllByRecursion as All};
+ghost use Rattle.std.specs.List.{AllByRecursion};
 
 use crate::areas::Branch;
 use crate::flips::precedes;
@@ -26,7 +26,7 @@ pub(crate) fn pop<W: Weight>(branches: &mut [Branch<W>], used: usize) -> Branch<
     ensures rest { drop used branches.new ≡ drop used branches.old }
     ensures shuffled { IsPermutation (take used branches.old) (result ∷ take (used - 1) branches.new) }
     ensures heap { Kept (promised W.Weight.model W.Weight.value) used branches.old → Heaped (Above W.Weight.model.at_most W.Weight.value) used branches.old → Heaped (Above W.Weight.model.at_most W.Weight.value) (used - 1) branches.new }
-    ensures first { Kept (promised W.Weight.model W.Weight.value) used branches.old → Heaped (Above W.Weight.model.at_most W.Weight.value) used branches.old → All (Above W.Weight.model.at_most W.Weight.value result) (take used branches.old) }
+    ensures first { Kept (promised W.Weight.model W.Weight.value) used branches.old → Heaped (Above W.Weight.model.at_most W.Weight.value) used branches.old → AllByRecursion (Above W.Weight.model.at_most W.Weight.value result) (take used branches.old) }
 {
     let last = used - 1;
     branches.swap(0, last);

@@ -1,11 +1,10 @@
 -- A row that is read of 16 bytes, and where it may have marks.
 use Rattle.std.proofs.Common.{◌≡◌, ℕ, suc, ◌+◌, ◌*◌, ◌/◌, ◌%◌, ◌^◌, ◌<◌, ◌≤◌, Bool, true, false, cond, List, [], ◌∷◌, ◌++◌, length, get_or, take, drop, is_ok, Some, None, Ok, Err, Option, Result, sym, refl, ap, ◌∙◌, subst, ap₂, inl, inr, arith, lit<}
-use Rattle.std.proofs.lemmas.List.{places, append_assoc, get_or-take, get_or-drop, get_or_past, length-take, length-take-le, length-drop, drop_more, drop-drop, take-append-drop, drop-take, take-take}
+use Rattle.std.proofs.lemmas.List.{append_assoc, get_or-take, get_or-drop, get_or_past, length-take, length-take-le, length-drop, drop_more, drop-drop, take-append-drop, drop-take, take-take}
 use Rattle.std.proofs.lemmas.Bool.{cases_lt, and_parts, leb-true, cond-true}
 use Rattle.std.specs.Int.{reverse_bits_onto}
 use Rattle.std.specs.Option.{option_map}
 use Rattle.std.specs.List.{flat_map}
-use Rattle.frames.specs.Faults as frames-faults
 use Rattle.frames.specs.Faults.{Refusal, plain, answer, refusal}
 use Rattle.frames.specs.Halves.{spelled, unmarked, is_length}
 use Rattle.frames.specs.Words as frames-words

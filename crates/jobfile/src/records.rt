@@ -132,15 +132,25 @@ mod tests {
     use std::test::Fail;
 
     // The record reads as the reading, and the reading is written as the record.
-    fn both_ways(rt: &impl Abort, record: [u8; 9], reading: Reading) -> Result<(), Fail> {
-        assert_eq!(rt; read_record(&record), Ok(reading));
-        assert_eq!(rt; write_record(reading), Ok(record));
+    fn both_ways(
+        rt: &impl Abort,
+        what: &str,
+        record: [u8; 9],
+        reading: Reading,
+    ) -> Result<(), Fail> {
+        assert_eq!(rt; read_record(&record), Ok(reading), "{what}");
+        assert_eq!(rt; write_record(reading), Ok(record), "{what}");
         Ok(())
     }
 
     // The record gives the fault.
-    fn refused(rt: &impl Abort, record: [u8; 9], fault: ReadingFault) -> Result<(), Fail> {
-        assert_eq!(rt; read_record(&record), Err(fault));
+    fn refused(
+        rt: &impl Abort,
+        what: &str,
+        record: [u8; 9],
+        fault: ReadingFault,
+    ) -> Result<(), Fail> {
+        assert_eq!(rt; read_record(&record), Err(fault), "{what}");
         Ok(())
     }
 
@@ -150,10 +160,16 @@ mod tests {
             left: 127.0,
             right: -127.0,
         };
-        both_ways(&rt, [0; 9], Reading::Dropout)?;
-        both_ways(&rt, [1, 0, 0, 0x80, 0x3f, 0, 0, 0, 0], Reading::Single(1.0))?;
+        both_ways(&rt, "readings go both ways", [0; 9], Reading::Dropout)?;
         both_ways(
             &rt,
+            "readings go both ways",
+            [1, 0, 0, 0x80, 0x3f, 0, 0, 0, 0],
+            Reading::Single(1.0),
+        )?;
+        both_ways(
+            &rt,
+            "readings go both ways",
             [2, 0, 0, 0xfe, 0x42, 0, 0, 0xfe, 0xc2],
             Reading::Pair(pair),
         )
@@ -161,17 +177,45 @@ mod tests {
 
     #[test]
     fn small_levels_go_both_ways(rt: HostRuntime) -> Result<(), Fail> {
-        both_ways(&rt, [1, 0, 0, 0, 0x80, 0, 0, 0, 0], Reading::Single(-0.0)).note("minus zero")?;
-        both_ways(&rt, [1, 1, 0, 0, 0, 0, 0, 0, 0], Reading::Single(1e-45)).note("subnormal")
+        both_ways(
+            &rt,
+            "minus zero",
+            [1, 0, 0, 0, 0x80, 0, 0, 0, 0],
+            Reading::Single(-0.0),
+        )?;
+        both_ways(
+            &rt,
+            "subnormal",
+            [1, 1, 0, 0, 0, 0, 0, 0, 0],
+            Reading::Single(1e-45),
+        )
     }
 
     #[test]
     fn levels_past_127_are_refused(rt: HostRuntime) -> Result<(), Fail> {
-        refused(&rt, [1, 1, 0, 0xfe, 0x42, 0, 0, 0, 0], ReadingFault::Level).note("above 127")?;
-        refused(&rt, [1, 0, 0, 0xc0, 0x7f, 0, 0, 0, 0], ReadingFault::Level).note("NaN")?;
-        refused(&rt, [1, 0, 0, 0x80, 0x7f, 0, 0, 0, 0], ReadingFault::Level).note("infinity")?;
-        refused(&rt, [2, 0, 0, 0, 0, 0, 0, 0x80, 0xff], ReadingFault::Level).note(
+        refused(
+            &rt,
+            "above 127",
+            [1, 1, 0, 0xfe, 0x42, 0, 0, 0, 0],
+            ReadingFault::Level,
+        )?;
+        refused(
+            &rt,
+            "NaN",
+            [1, 0, 0, 0xc0, 0x7f, 0, 0, 0, 0],
+            ReadingFault::Level,
+        )?;
+        refused(
+            &rt,
+            "infinity",
+            [1, 0, 0, 0x80, 0x7f, 0, 0, 0, 0],
+            ReadingFault::Level,
+        )?;
+        refused(
+            &rt,
             "minus infinity",
+            [2, 0, 0, 0, 0, 0, 0, 0x80, 0xff],
+            ReadingFault::Level,
         )?;
         assert_eq!(rt;
             write_record(Reading::Single(f32::NAN)),
@@ -182,10 +226,30 @@ mod tests {
 
     #[test]
     fn faults_come_in_order(rt: HostRuntime) -> Result<(), Fail> {
-        refused(&rt, [3, 0, 0, 0, 0, 0, 0, 0, 1], ReadingFault::Kind)?;
-        refused(&rt, [0, 0, 0, 0, 0, 0, 0, 0, 1], ReadingFault::Spare)?;
-        refused(&rt, [0, 0, 0, 0, 0x80, 0, 0, 0, 0], ReadingFault::Spare)?;
-        refused(&rt, [1, 0, 0, 0xc0, 0x7f, 1, 0, 0, 0], ReadingFault::Spare)
+        refused(
+            &rt,
+            "faults come in order",
+            [3, 0, 0, 0, 0, 0, 0, 0, 1],
+            ReadingFault::Kind,
+        )?;
+        refused(
+            &rt,
+            "faults come in order",
+            [0, 0, 0, 0, 0, 0, 0, 0, 1],
+            ReadingFault::Spare,
+        )?;
+        refused(
+            &rt,
+            "faults come in order",
+            [0, 0, 0, 0, 0x80, 0, 0, 0, 0],
+            ReadingFault::Spare,
+        )?;
+        refused(
+            &rt,
+            "faults come in order",
+            [1, 0, 0, 0xc0, 0x7f, 1, 0, 0, 0],
+            ReadingFault::Spare,
+        )
     }
 
     #[test]

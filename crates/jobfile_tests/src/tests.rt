@@ -54,20 +54,20 @@ fn behind_zeros(heap: Global, count: usize, bytes: &[u8]) -> Result<Vec<u8>, All
 }
 
 // The file has the fault.
-fn refused(rt: &impl Abort, heap: Global, bytes: &[u8], fault: FileFault) -> Result<(), Fail> {
-    assert_eq!(rt; read(heap, bytes).err(), Some(fault));
+fn refused(rt: &impl Abort, what: &str, heap: Global, bytes: &[u8], fault: FileFault) -> Result<(), Fail> {
+    assert_eq!(rt; read(heap, bytes).err(), Some(fault), "{what}");
     Ok(())
 }
 
 // The sample with some bytes changed has the fault, or none.
 fn gives(
-    rt: &impl Abort,
+    rt: &impl Abort, what: &str,
     heap: Global,
     changes: &[(usize, u8)],
     fault: Option<FileFault>,
 ) -> Result<(), Fail> {
     let bytes = changed(heap, changes)?;
-    assert_eq!(rt; read(heap, &bytes).err(), fault);
+    assert_eq!(rt; read(heap, &bytes).err(), fault, "{what}");
     Ok(())
 }
 
@@ -78,16 +78,16 @@ fn sample_job(heap: Global) -> Result<Job, FileFault> {
 
 // The job is refused, and the buffer of that many bytes stays as it was.
 fn not_written(
-    rt: &impl Abort,
+    rt: &impl Abort, what: &str,
     heap: Global,
     job: &Job,
     space: usize,
     fault: FileFault,
 ) -> Result<(), Fail> {
     let mut out = vec![in heap; 7; space]?;
-    assert_eq!(rt; write(job, &mut out), Err(fault));
+    assert_eq!(rt; write(job, &mut out), Err(fault), "{what}");
     for byte in &out {
-        assert_eq!(rt; *byte, 7);
+        assert_eq!(rt; *byte, 7, "{what}");
     }
     Ok(())
 }
@@ -130,15 +130,15 @@ fn the_sample_is_written(rt: HostRuntime) -> Result<(), Fail> {
 #[test]
 fn form_32(rt: HostRuntime) -> Result<(), Fail> {
     let heap = rt.alloc();
-    refused(&rt, heap, &[], FileFault::Form).note("no byte")?;
-    refused(&rt, heap, &SAMPLE[35..50], FileFault::Form).note("15 bytes")?;
-    refused(&rt, heap, &SAMPLE[34..50], FileFault::Layout).note("16 bytes")?;
+    refused(&rt, "no byte", heap, &[], FileFault::Form)?;
+    refused(&rt, "15 bytes", heap, &SAMPLE[35..50], FileFault::Form)?;
+    refused(&rt, "16 bytes", heap, &SAMPLE[34..50], FileFault::Layout)?;
     let most = behind_zeros(heap, 4046, &SAMPLE)?;
     assert!(rt; read(heap, &most).is_ok(), "4,096 bytes");
     let over = behind_zeros(heap, 4047, &SAMPLE)?;
-    refused(&rt, heap, &over, FileFault::Form).note("4,097 bytes")?;
-    gives(&rt, heap, &[(MARK, 0x5B)], Some(FileFault::Form)).note("mark")?;
-    gives(&rt, heap, &[(MARK, 0xA5), (N, 0)], Some(FileFault::Form)).note("32 comes before 33")
+    refused(&rt, "4,097 bytes", heap, &over, FileFault::Form)?;
+    gives(&rt, "mark", heap, &[(MARK, 0x5B)], Some(FileFault::Form))?;
+    gives(&rt, "32 comes before 33", heap, &[(MARK, 0xA5), (N, 0)], Some(FileFault::Form))
 }
 
 #[test]
@@ -146,17 +146,17 @@ fn numbers_33(rt: HostRuntime) -> Result<(), Fail> {
     let heap = rt.alloc();
     let fault = Some(FileFault::Numbers);
     let layout = Some(FileFault::Layout);
-    gives(&rt, heap, &[(N, 0)], fault).note("n is 0")?;
-    gives(&rt, heap, &[(N, 128)], layout).note("n is 128")?;
-    gives(&rt, heap, &[(N, 129)], fault).note("n is 129")?;
-    gives(&rt, heap, &[(N, 1), (N + 1, 1)], fault).note("n is 257")?;
-    gives(&rt, heap, &[(LIMIT, 0)], fault).note("limit is 0")?;
-    gives(&rt, heap, &[(LIMIT, 1)], None).note("limit is 1")?;
-    gives(&rt, heap, &[(KIND, 1)], None).note("kind is 1")?;
-    gives(&rt, heap, &[(KIND, 2)], fault).note("kind is 2")?;
-    gives(&rt, heap, &[(ROWS, 32)], layout).note("32 rows")?;
-    gives(&rt, heap, &[(ROWS, 33)], fault).note("33 rows")?;
-    gives(&rt, heap, &[(N, 0), (READINGS_AT + 3, 9)], fault).note("33 comes before 34")
+    gives(&rt, "n is 0", heap, &[(N, 0)], fault)?;
+    gives(&rt, "n is 128", heap, &[(N, 128)], layout)?;
+    gives(&rt, "n is 129", heap, &[(N, 129)], fault)?;
+    gives(&rt, "n is 257", heap, &[(N, 1), (N + 1, 1)], fault)?;
+    gives(&rt, "limit is 0", heap, &[(LIMIT, 0)], fault)?;
+    gives(&rt, "limit is 1", heap, &[(LIMIT, 1)], None)?;
+    gives(&rt, "kind is 1", heap, &[(KIND, 1)], None)?;
+    gives(&rt, "kind is 2", heap, &[(KIND, 2)], fault)?;
+    gives(&rt, "32 rows", heap, &[(ROWS, 32)], layout)?;
+    gives(&rt, "33 rows", heap, &[(ROWS, 33)], fault)?;
+    gives(&rt, "33 comes before 34", heap, &[(N, 0), (READINGS_AT + 3, 9)], fault)
 }
 
 #[test]
@@ -164,8 +164,8 @@ fn products_33(rt: HostRuntime) -> Result<(), Fail> {
     let heap = rt.alloc();
     let fault = Some(FileFault::Numbers);
     let layout = Some(FileFault::Layout);
-    gives(&rt, heap, &[(LIMIT, 0), (LIMIT + 1, 2)], None).note("2 * 512")?;
-    gives(&rt, heap, &[(LIMIT, 1), (LIMIT + 1, 2)], fault).note("2 * 513")?;
+    gives(&rt, "2 * 512", heap, &[(LIMIT, 0), (LIMIT + 1, 2)], None)?;
+    gives(&rt, "2 * 513", heap, &[(LIMIT, 1), (LIMIT + 1, 2)], fault)?;
     gives(
         &rt,
         heap,
@@ -173,23 +173,23 @@ fn products_33(rt: HostRuntime) -> Result<(), Fail> {
         Some(bad_row(0, 18)),
     )
     .note("1 * 1,024")?;
-    gives(&rt, heap, &[(N, 1), (LIMIT, 1), (LIMIT + 1, 4)], fault).note("1 * 1,025")?;
-    gives(&rt, heap, &[(GUESSED, 0)], None).note("none guessed")?;
-    gives(&rt, heap, &[(GUESSED, 2)], fault).note("2 of 1 row guessed")?;
-    gives(&rt, heap, &[(ROWS, 6), (GUESSED, 6)], layout).note("6 of 6 guessed")?;
-    gives(&rt, heap, &[(ROWS, 7), (GUESSED, 7)], fault).note("7 of 7 guessed")?;
-    gives(&rt, heap, &[(N, 15), (ROWS, 6), (GUESSED, 6)], layout).note("16 * 64")?;
-    gives(&rt, heap, &[(N, 16), (ROWS, 6), (GUESSED, 6)], fault).note("17 * 64")
+    gives(&rt, "1 * 1,025", heap, &[(N, 1), (LIMIT, 1), (LIMIT + 1, 4)], fault)?;
+    gives(&rt, "none guessed", heap, &[(GUESSED, 0)], None)?;
+    gives(&rt, "2 of 1 row guessed", heap, &[(GUESSED, 2)], fault)?;
+    gives(&rt, "6 of 6 guessed", heap, &[(ROWS, 6), (GUESSED, 6)], layout)?;
+    gives(&rt, "7 of 7 guessed", heap, &[(ROWS, 7), (GUESSED, 7)], fault)?;
+    gives(&rt, "16 * 64", heap, &[(N, 15), (ROWS, 6), (GUESSED, 6)], layout)?;
+    gives(&rt, "17 * 64", heap, &[(N, 16), (ROWS, 6), (GUESSED, 6)], fault)
 }
 
 #[test]
 fn layout_34(rt: HostRuntime) -> Result<(), Fail> {
     let heap = rt.alloc();
     let fault = Some(FileFault::Layout);
-    gives(&rt, heap, &[(ROWS_AT, 17)], fault).note("rows begin in the readings")?;
-    gives(&rt, heap, &[(ROWS_AT, 19)], fault).note("rows end in the trailer")?;
-    gives(&rt, heap, &[(READINGS_AT, 1)], fault).note("readings end in the rows")?;
-    gives(&rt, heap, &[(READINGS_AT, 16), (ROWS_AT, 1)], fault).note("rows end in the readings")?;
+    gives(&rt, "rows begin in the readings", heap, &[(ROWS_AT, 17)], fault)?;
+    gives(&rt, "rows end in the trailer", heap, &[(ROWS_AT, 19)], fault)?;
+    gives(&rt, "readings end in the rows", heap, &[(READINGS_AT, 1)], fault)?;
+    gives(&rt, "rows end in the readings", heap, &[(READINGS_AT, 16), (ROWS_AT, 1)], fault)?;
     gives(
         &rt,
         heap,
@@ -197,8 +197,8 @@ fn layout_34(rt: HostRuntime) -> Result<(), Fail> {
         fault,
     )
     .note("readings end in the trailer")?;
-    gives(&rt, heap, &[(READINGS_AT, 50)], fault).note("readings past the file")?;
-    gives(&rt, heap, &[(ROWS_AT, 50)], fault).note("rows past the file")
+    gives(&rt, "readings past the file", heap, &[(READINGS_AT, 50)], fault)?;
+    gives(&rt, "rows past the file", heap, &[(ROWS_AT, 50)], fault)
 }
 
 #[test]
@@ -211,29 +211,29 @@ fn far_places_34(rt: HostRuntime) -> Result<(), Fail> {
         (READINGS_AT + 2, 0xFF),
         (READINGS_AT + 3, 0xFF),
     ];
-    gives(&rt, heap, &far, fault).note("readings at 2^32 - 9")?;
+    gives(&rt, "readings at 2^32 - 9", heap, &far, fault)?;
     let last = [
         (ROWS_AT, 0xFF),
         (ROWS_AT + 1, 0xFF),
         (ROWS_AT + 2, 0xFF),
         (ROWS_AT + 3, 0xFF),
     ];
-    gives(&rt, heap, &last, fault).note("rows at 2^32 - 1")?;
+    gives(&rt, "rows at 2^32 - 1", heap, &last, fault)?;
     let round = [
         (ROWS_AT, 0xF0),
         (ROWS_AT + 1, 0xFF),
         (ROWS_AT + 2, 0xFF),
         (ROWS_AT + 3, 0xFF),
     ];
-    gives(&rt, heap, &round, fault).note("rows at 2^32 - 16")
+    gives(&rt, "rows at 2^32 - 16", heap, &round, fault)
 }
 
 #[test]
 fn no_rows_stand_anywhere(rt: HostRuntime) -> Result<(), Fail> {
     let heap = rt.alloc();
-    gives(&rt, heap, &[(ROWS, 0), (GUESSED, 0)], None)?;
-    gives(&rt, heap, &[(ROWS, 0), (GUESSED, 0), (ROWS_AT, 4)], None).note("in the readings")?;
-    gives(&rt, heap, &[(ROWS, 0), (GUESSED, 0), (ROWS_AT, 40)], None).note("in the trailer")?;
+    gives(&rt, "no rows stand anywhere", heap, &[(ROWS, 0), (GUESSED, 0)], None)?;
+    gives(&rt, "in the readings", heap, &[(ROWS, 0), (GUESSED, 0), (ROWS_AT, 4)], None)?;
+    gives(&rt, "in the trailer", heap, &[(ROWS, 0), (GUESSED, 0), (ROWS_AT, 40)], None)?;
     let last = [
         (ROWS, 0),
         (GUESSED, 0),
@@ -242,7 +242,7 @@ fn no_rows_stand_anywhere(rt: HostRuntime) -> Result<(), Fail> {
         (ROWS_AT + 2, 0xFF),
         (ROWS_AT + 3, 0xFF),
     ];
-    gives(&rt, heap, &last, None).note("at 2^32 - 1")
+    gives(&rt, "at 2^32 - 1", heap, &last, None)
 }
 
 #[test]
@@ -303,29 +303,29 @@ fn readings_31(rt: HostRuntime) -> Result<(), Fail> {
     .note("31 comes before 35")?;
     let moved = changed(heap, &[(9, 3), (READINGS_AT, 5), (ROWS_AT, 23)])?;
     let bytes = behind_zeros(heap, 5, &moved)?;
-    refused(&rt, heap, &bytes, bad_reading(ReadingFault::Kind, 1, 14)).note("behind five bytes")
+    refused(&rt, "behind five bytes", heap, &bytes, bad_reading(ReadingFault::Kind, 1, 14))
 }
 
 #[test]
 fn rows_35(rt: HostRuntime) -> Result<(), Fail> {
     let heap = rt.alloc();
-    gives(&rt, heap, &[(18, 0)], None).note("no mark")?;
-    gives(&rt, heap, &[(18, 2)], None).note("place 1")?;
-    gives(&rt, heap, &[(18, 4)], Some(bad_row(0, 18))).note("place 2")?;
-    gives(&rt, heap, &[(26, 1)], Some(bad_row(0, 18))).note("place 64")?;
-    gives(&rt, heap, &[(33, 128)], Some(bad_row(0, 18))).note("place 127")?;
+    gives(&rt, "no mark", heap, &[(18, 0)], None)?;
+    gives(&rt, "place 1", heap, &[(18, 2)], None)?;
+    gives(&rt, "place 2", heap, &[(18, 4)], Some(bad_row(0, 18)))?;
+    gives(&rt, "place 64", heap, &[(26, 1)], Some(bad_row(0, 18)))?;
+    gives(&rt, "place 127", heap, &[(33, 128)], Some(bad_row(0, 18)))?;
     let mut bytes = SAMPLE[0..34].to_vec(heap)?;
     bytes.extend_from_slice(&[0, 0, 0, 0, 0, 0, 0, 0, 0, 0, 0, 0, 0, 0, 0, 1])?;
     bytes.extend_from_slice(&[2, 0, 2, 0, 0, 0, 0, 0, 18, 0, 0, 0, 2, 0, 0, 0x5A])?;
-    refused(&rt, heap, &bytes, bad_row(1, 34)).note("the second row")
+    refused(&rt, "the second row", heap, &bytes, bad_row(1, 34))
 }
 
 #[test]
 fn writing_wants_room_36(rt: HostRuntime) -> Result<(), Fail> {
     let heap = rt.alloc();
     let job = sample_job(heap)?;
-    not_written(&rt, heap, &job, 0, FileFault::Room)?;
-    not_written(&rt, heap, &job, 49, FileFault::Room)?;
+    not_written(&rt, "writing wants room 36", heap, &job, 0, FileFault::Room)?;
+    not_written(&rt, "writing wants room 36", heap, &job, 49, FileFault::Room)?;
     let mut out = vec![in heap; 7; 50]?;
     assert_eq!(rt; write(&job, &mut out), Ok(50));
     Ok(())
@@ -336,17 +336,17 @@ fn writing_checks_numbers(rt: HostRuntime) -> Result<(), Fail> {
     let heap = rt.alloc();
     let mut job = sample_job(heap)?;
     job.limit = 0;
-    not_written(&rt, heap, &job, 99, FileFault::Numbers)?;
+    not_written(&rt, "writing checks numbers", heap, &job, 99, FileFault::Numbers)?;
     job.limit = 512;
     assert_eq!(rt; write(&job, &mut [0; 50]), Ok(50));
     job.limit = usize::MAX;
-    not_written(&rt, heap, &job, 99, FileFault::Numbers)?;
+    not_written(&rt, "writing checks numbers", heap, &job, 99, FileFault::Numbers)?;
     job.limit = 2;
     job.guessed = 2;
-    not_written(&rt, heap, &job, 0, FileFault::Numbers).note("33 comes before 36")?;
+    not_written(&rt, "33 comes before 36", heap, &job, 0, FileFault::Numbers)?;
     job.guessed = 0;
     job.readings.clear();
-    not_written(&rt, heap, &job, 99, FileFault::Numbers).note("n is 0")
+    not_written(&rt, "n is 0", heap, &job, 99, FileFault::Numbers)
 }
 
 #[test]
@@ -357,13 +357,11 @@ fn writing_checks_sections(rt: HostRuntime) -> Result<(), Fail> {
         first: 1 << 61,
         second: 0,
     })?;
-    not_written(&rt, heap, &job, 0, bad_row(1, 34)).note("35 comes before 36")?;
+    not_written(&rt, "35 comes before 36", heap, &job, 0, bad_row(1, 34))?;
     job.readings.push(Reading::Single(128.0))?;
-    not_written(&rt, heap, &job, 99, bad_reading(ReadingFault::Level, 2, 18)).note(
-        "31 comes before 35",
-    )?;
+    not_written(&rt, "31 comes before 35", heap, &job, 99, bad_reading(ReadingFault::Level, 2, 18))?;
     job.limit = 0;
-    not_written(&rt, heap, &job, 99, FileFault::Numbers).note("33 comes before 31")
+    not_written(&rt, "33 comes before 31", heap, &job, 99, FileFault::Numbers)
 }
 
 #[test]

@@ -7,11 +7,11 @@ use Rattle.guessing.specs.Guesses.{guesses}
 use Rattle.guessing.specs.Patterns.{Patterns, weight}
 use Rattle.std.proofs.lemmas.Bool.{eq-eqb}
 use Rattle.std.specs.Option.{option_map}
-use Rattle.std.specs.List.{AllByRecursion as All, slice_get}
+use Rattle.std.specs.List.{AllByRecursion, slice_get}
 use Rattle.weights.specs.Model.{Model}
 use Rattle.search.specs.Outcomes.{Try, accepted, judged, missing, rejected}
 
-all_nth : {X : Type 0} (P : X → Type 0) (l : List X) (k : ℕ) (x : X) → All P l → slice_get l k ≡ Some x → P x
+all_nth : {X : Type 0} (P : X → Type 0) (l : List X) (k : ℕ) (x : X) → AllByRecursion P l → slice_get l k ≡ Some x → P x
 all_nth P [] k x h e = absurd (let z : ◌≡◌ {A = ℕ} 0 1 = cc in omega arith)
 all_nth P (y ∷ l) zero x h e = let f : y ≡ x = cc in subst P f h.0
 all_nth P (y ∷ l) (suc k) x h e = all_nth P l k x h.1 e

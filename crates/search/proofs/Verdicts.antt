@@ -9,7 +9,7 @@ use Rattle.guessing.specs.Branches.{same, tally}
 use Rattle.guessing.specs.Guesses.{Before, upto, sooner, guesses}
 use Rattle.guessing.specs.Patterns.{weight}
 use Rattle.std.proofs.lemmas.Bool.{leb-true, leb-false, le-leb, lt-leb}
-use Rattle.std.specs.List.{AllByRecursion as All}
+use Rattle.std.specs.List.{AllByRecursion}
 use Rattle.weights.specs.Laws.{Laws}
 use Rattle.weights.specs.Model.{Model}
 use Rattle.search.specs.Lightest.{Admitted, Lightest, Right, Within, Alike, BothOrNeither}
@@ -21,19 +21,19 @@ use Rattle.search.proofs.Flipping.{differences_back, length_differences}
 record First {X : Type 0} (le : X → X → Bool) (P : X → Type 0) (p : X → Bool) (l : List X) (x : X) : Type 0 where
   pub good : P x
   pub passed : p x ≡ true
-  pub least : All (λ y. p y ≡ true → le x y ≡ true) l
+  pub least : AllByRecursion (λ y. p y ≡ true → le x y ≡ true) l
 
 -- The first that passes, or that none does.
 abbrev Firsts : {X : Type 0} → (X → X → Bool) → (X → Type 0) → (X → Bool) → List X → Option X → Type 0
-Firsts le P p l None = All (λ y. p y ≡ true → ⊥) l
+Firsts le P p l None = AllByRecursion (λ y. p y ≡ true → ⊥) l
 Firsts le P p l (Some x) = First le P p l x
 
 module _ {X : Type 0} (le : X → X → Bool) (P : X → Type 0) (p : X → Bool) (itself : (x : X) → P x → le x x ≡ true) where
-  after_all : (x : X) (l : List X) → All (λ y. le x y ≡ true) l → All (λ y. p y ≡ true → le x y ≡ true) l
+  after_all : (x : X) (l : List X) → AllByRecursion (λ y. le x y ≡ true) l → AllByRecursion (λ y. p y ≡ true → le x y ≡ true) l
   after_all x [] h = tt
   after_all x (y ∷ l) h = ((λ _. h.0), after_all x l h.1)
 
-  first_is : (l : List X) → Sorted le l → All P l → Firsts le P p l (first_of p l)
+  first_is : (l : List X) → Sorted le l → AllByRecursion P l → Firsts le P p l (first_of p l)
   first_is [] s g = tt
   first_is (x ∷ l) s g = go (p x) refl (first_of p l) (first_is l s.1 g.1)
     where
@@ -98,7 +98,7 @@ shifted p q h lp lq over e f =
 module _ {V : Type 0} (m : Model V) (laws : Laws m) where
   module _ (t : Task) (priced : Priced t.patterns) where
     -- what holds of all guesses holds of each admitted pattern
-    at-guess : (Q : List Bool → Type 0) (x : List Bool) → length x ≡ t.patterns.places → t.patterns.admits x ≡ true → All Q (guesses m t.patterns) → Q x
+    at-guess : (Q : List Bool → Type 0) (x : List Bool) → length x ≡ t.patterns.places → t.patterns.admits x ≡ true → AllByRecursion Q (guesses m t.patterns) → Q x
     at-guess Q x l a h =
         let f = find Q (same x) (guesses m t.patterns) h (omega (arith, guess_once m t.patterns x l, ap tally a)) in
         subst Q (sym (same_eq x f.0 f.2)) f.1

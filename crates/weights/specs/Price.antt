@@ -1,6 +1,6 @@
 -- What prices and lists of prices are worth under a model.
 use Rattle.std.specs.Prelude.{ℕ, ◌<◌, List, [], ◌∷◌}
-use Rattle.std.specs.List.{AllByRecursion as All}
+use Rattle.std.specs.List.{AllByRecursion}
 use Rattle.weights.specs.Model.{Model}
 use Rattle.weights.specs.declared.price.Price.{Price}
 use Rattle.weights.specs.declared.price.Price.TheVariants.{Flip, Surcharge}
@@ -12,7 +12,7 @@ asked (Surcharge p) = p
 
 -- Every number asked with is below 65,536, as the code's always are.
 abbrev pub InRange : List Price → Type 0
-InRange ps = All (λ p. asked p < 65536) ps
+InRange ps = AllByRecursion (λ p. asked p < 65536) ps
 
 -- What one price is worth.
 abbrev pub price_of : {V : Type 0} → Model V → Price → V
