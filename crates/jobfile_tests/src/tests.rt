@@ -54,14 +54,21 @@ fn behind_zeros(heap: Global, count: usize, bytes: &[u8]) -> Result<Vec<u8>, All
 }
 
 // The file has the fault.
-fn refused(rt: &impl Abort, what: &str, heap: Global, bytes: &[u8], fault: FileFault) -> Result<(), Fail> {
+fn refused(
+    rt: &impl Abort,
+    what: &str,
+    heap: Global,
+    bytes: &[u8],
+    fault: FileFault,
+) -> Result<(), Fail> {
     assert_eq!(rt; read(heap, bytes).err(), Some(fault), "{what}");
     Ok(())
 }
 
 // The sample with some bytes changed has the fault, or none.
 fn gives(
-    rt: &impl Abort, what: &str,
+    rt: &impl Abort,
+    what: &str,
     heap: Global,
     changes: &[(usize, u8)],
     fault: Option<FileFault>,
@@ -78,7 +85,8 @@ fn sample_job(heap: Global) -> Result<Job, FileFault> {
 
 // The job is refused, and the buffer of that many bytes stays as it was.
 fn not_written(
-    rt: &impl Abort, what: &str,
+    rt: &impl Abort,
+    what: &str,
     heap: Global,
     job: &Job,
     space: usize,
@@ -138,7 +146,13 @@ fn form_32(rt: HostRuntime) -> Result<(), Fail> {
     let over = behind_zeros(heap, 4047, &SAMPLE)?;
     refused(&rt, "4,097 bytes", heap, &over, FileFault::Form)?;
     gives(&rt, "mark", heap, &[(MARK, 0x5B)], Some(FileFault::Form))?;
-    gives(&rt, "32 comes before 33", heap, &[(MARK, 0xA5), (N, 0)], Some(FileFault::Form))
+    gives(
+        &rt,
+        "32 comes before 33",
+        heap,
+        &[(MARK, 0xA5), (N, 0)],
+        Some(FileFault::Form),
+    )
 }
 
 #[test]
@@ -156,7 +170,13 @@ fn numbers_33(rt: HostRuntime) -> Result<(), Fail> {
     gives(&rt, "kind is 2", heap, &[(KIND, 2)], fault)?;
     gives(&rt, "32 rows", heap, &[(ROWS, 32)], layout)?;
     gives(&rt, "33 rows", heap, &[(ROWS, 33)], fault)?;
-    gives(&rt, "33 comes before 34", heap, &[(N, 0), (READINGS_AT + 3, 9)], fault)
+    gives(
+        &rt,
+        "33 comes before 34",
+        heap,
+        &[(N, 0), (READINGS_AT + 3, 9)],
+        fault,
+    )
 }
 
 #[test]
@@ -173,23 +193,77 @@ fn products_33(rt: HostRuntime) -> Result<(), Fail> {
         Some(bad_row(0, 18)),
     )
     .note("1 * 1,024")?;
-    gives(&rt, "1 * 1,025", heap, &[(N, 1), (LIMIT, 1), (LIMIT + 1, 4)], fault)?;
+    gives(
+        &rt,
+        "1 * 1,025",
+        heap,
+        &[(N, 1), (LIMIT, 1), (LIMIT + 1, 4)],
+        fault,
+    )?;
     gives(&rt, "none guessed", heap, &[(GUESSED, 0)], None)?;
     gives(&rt, "2 of 1 row guessed", heap, &[(GUESSED, 2)], fault)?;
-    gives(&rt, "6 of 6 guessed", heap, &[(ROWS, 6), (GUESSED, 6)], layout)?;
-    gives(&rt, "7 of 7 guessed", heap, &[(ROWS, 7), (GUESSED, 7)], fault)?;
-    gives(&rt, "16 * 64", heap, &[(N, 15), (ROWS, 6), (GUESSED, 6)], layout)?;
-    gives(&rt, "17 * 64", heap, &[(N, 16), (ROWS, 6), (GUESSED, 6)], fault)
+    gives(
+        &rt,
+        "6 of 6 guessed",
+        heap,
+        &[(ROWS, 6), (GUESSED, 6)],
+        layout,
+    )?;
+    gives(
+        &rt,
+        "7 of 7 guessed",
+        heap,
+        &[(ROWS, 7), (GUESSED, 7)],
+        fault,
+    )?;
+    gives(
+        &rt,
+        "16 * 64",
+        heap,
+        &[(N, 15), (ROWS, 6), (GUESSED, 6)],
+        layout,
+    )?;
+    gives(
+        &rt,
+        "17 * 64",
+        heap,
+        &[(N, 16), (ROWS, 6), (GUESSED, 6)],
+        fault,
+    )
 }
 
 #[test]
 fn layout_34(rt: HostRuntime) -> Result<(), Fail> {
     let heap = rt.alloc();
     let fault = Some(FileFault::Layout);
-    gives(&rt, "rows begin in the readings", heap, &[(ROWS_AT, 17)], fault)?;
-    gives(&rt, "rows end in the trailer", heap, &[(ROWS_AT, 19)], fault)?;
-    gives(&rt, "readings end in the rows", heap, &[(READINGS_AT, 1)], fault)?;
-    gives(&rt, "rows end in the readings", heap, &[(READINGS_AT, 16), (ROWS_AT, 1)], fault)?;
+    gives(
+        &rt,
+        "rows begin in the readings",
+        heap,
+        &[(ROWS_AT, 17)],
+        fault,
+    )?;
+    gives(
+        &rt,
+        "rows end in the trailer",
+        heap,
+        &[(ROWS_AT, 19)],
+        fault,
+    )?;
+    gives(
+        &rt,
+        "readings end in the rows",
+        heap,
+        &[(READINGS_AT, 1)],
+        fault,
+    )?;
+    gives(
+        &rt,
+        "rows end in the readings",
+        heap,
+        &[(READINGS_AT, 16), (ROWS_AT, 1)],
+        fault,
+    )?;
     gives(
         &rt,
         heap,
@@ -197,7 +271,13 @@ fn layout_34(rt: HostRuntime) -> Result<(), Fail> {
         fault,
     )
     .note("readings end in the trailer")?;
-    gives(&rt, "readings past the file", heap, &[(READINGS_AT, 50)], fault)?;
+    gives(
+        &rt,
+        "readings past the file",
+        heap,
+        &[(READINGS_AT, 50)],
+        fault,
+    )?;
     gives(&rt, "rows past the file", heap, &[(ROWS_AT, 50)], fault)
 }
 
@@ -231,9 +311,27 @@ fn far_places_34(rt: HostRuntime) -> Result<(), Fail> {
 #[test]
 fn no_rows_stand_anywhere(rt: HostRuntime) -> Result<(), Fail> {
     let heap = rt.alloc();
-    gives(&rt, "no rows stand anywhere", heap, &[(ROWS, 0), (GUESSED, 0)], None)?;
-    gives(&rt, "in the readings", heap, &[(ROWS, 0), (GUESSED, 0), (ROWS_AT, 4)], None)?;
-    gives(&rt, "in the trailer", heap, &[(ROWS, 0), (GUESSED, 0), (ROWS_AT, 40)], None)?;
+    gives(
+        &rt,
+        "no rows stand anywhere",
+        heap,
+        &[(ROWS, 0), (GUESSED, 0)],
+        None,
+    )?;
+    gives(
+        &rt,
+        "in the readings",
+        heap,
+        &[(ROWS, 0), (GUESSED, 0), (ROWS_AT, 4)],
+        None,
+    )?;
+    gives(
+        &rt,
+        "in the trailer",
+        heap,
+        &[(ROWS, 0), (GUESSED, 0), (ROWS_AT, 40)],
+        None,
+    )?;
     let last = [
         (ROWS, 0),
         (GUESSED, 0),
@@ -303,7 +401,13 @@ fn readings_31(rt: HostRuntime) -> Result<(), Fail> {
     .note("31 comes before 35")?;
     let moved = changed(heap, &[(9, 3), (READINGS_AT, 5), (ROWS_AT, 23)])?;
     let bytes = behind_zeros(heap, 5, &moved)?;
-    refused(&rt, "behind five bytes", heap, &bytes, bad_reading(ReadingFault::Kind, 1, 14))
+    refused(
+        &rt,
+        "behind five bytes",
+        heap,
+        &bytes,
+        bad_reading(ReadingFault::Kind, 1, 14),
+    )
 }
 
 #[test]
@@ -325,7 +429,14 @@ fn writing_wants_room_36(rt: HostRuntime) -> Result<(), Fail> {
     let heap = rt.alloc();
     let job = sample_job(heap)?;
     not_written(&rt, "writing wants room 36", heap, &job, 0, FileFault::Room)?;
-    not_written(&rt, "writing wants room 36", heap, &job, 49, FileFault::Room)?;
+    not_written(
+        &rt,
+        "writing wants room 36",
+        heap,
+        &job,
+        49,
+        FileFault::Room,
+    )?;
     let mut out = vec![in heap; 7; 50]?;
     assert_eq!(rt; write(&job, &mut out), Ok(50));
     Ok(())
@@ -336,11 +447,25 @@ fn writing_checks_numbers(rt: HostRuntime) -> Result<(), Fail> {
     let heap = rt.alloc();
     let mut job = sample_job(heap)?;
     job.limit = 0;
-    not_written(&rt, "writing checks numbers", heap, &job, 99, FileFault::Numbers)?;
+    not_written(
+        &rt,
+        "writing checks numbers",
+        heap,
+        &job,
+        99,
+        FileFault::Numbers,
+    )?;
     job.limit = 512;
     assert_eq!(rt; write(&job, &mut [0; 50]), Ok(50));
     job.limit = usize::MAX;
-    not_written(&rt, "writing checks numbers", heap, &job, 99, FileFault::Numbers)?;
+    not_written(
+        &rt,
+        "writing checks numbers",
+        heap,
+        &job,
+        99,
+        FileFault::Numbers,
+    )?;
     job.limit = 2;
     job.guessed = 2;
     not_written(&rt, "33 comes before 36", heap, &job, 0, FileFault::Numbers)?;
@@ -359,9 +484,23 @@ fn writing_checks_sections(rt: HostRuntime) -> Result<(), Fail> {
     })?;
     not_written(&rt, "35 comes before 36", heap, &job, 0, bad_row(1, 34))?;
     job.readings.push(Reading::Single(128.0))?;
-    not_written(&rt, "31 comes before 35", heap, &job, 99, bad_reading(ReadingFault::Level, 2, 18))?;
+    not_written(
+        &rt,
+        "31 comes before 35",
+        heap,
+        &job,
+        99,
+        bad_reading(ReadingFault::Level, 2, 18),
+    )?;
     job.limit = 0;
-    not_written(&rt, "33 comes before 31", heap, &job, 99, FileFault::Numbers)
+    not_written(
+        &rt,
+        "33 comes before 31",
+        heap,
+        &job,
+        99,
+        FileFault::Numbers,
+    )
 }
 
 #[test]

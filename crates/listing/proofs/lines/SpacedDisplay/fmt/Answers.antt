@@ -15,7 +15,7 @@ loop-weight-preserved g c = λ p.
     let before = c.loop-weight.invariant p in
     let h : i < length ws = omega arith in
     has_written_of_eq g.W.Write.write_str_gives c.args.f.now _ _ c.write.new.self (spaced_more ws i h)
-    (has_written_append g.W.Write.write_str_gives c.args.f.now _ c.loop-weight.f _ c.write.new.self before (c.write.ensures.writes before.plain (ap is_ok c.in-ok-write.was)))
+    (has_written_append g.W.Write.write_str_gives c.args.f.now _ c.loop-weight.f _ c.write.new.self before (c.write.ensures.writes before.plain (ap is_ok c.in_ok-write.was)))
 
 pub returns-clause-writes : goal.returns-clause-writes
 returns-clause-writes g c = λ p _.
