@@ -188,11 +188,11 @@ fn products_33(rt: HostRuntime) -> Result<(), Fail> {
     gives(&rt, "2 * 513", heap, &[(LIMIT, 1), (LIMIT + 1, 2)], fault)?;
     gives(
         &rt,
+        "1 * 1,024",
         heap,
         &[(N, 1), (LIMIT, 0), (LIMIT + 1, 4)],
         Some(bad_row(0, 18)),
-    )
-    .note("1 * 1,024")?;
+    )?;
     gives(
         &rt,
         "1 * 1,025",
@@ -266,11 +266,11 @@ fn layout_34(rt: HostRuntime) -> Result<(), Fail> {
     )?;
     gives(
         &rt,
+        "readings end in the trailer",
         heap,
         &[(READINGS_AT, 17), (ROWS, 0), (GUESSED, 0)],
         fault,
-    )
-    .note("readings end in the trailer")?;
+    )?;
     gives(
         &rt,
         "readings past the file",
@@ -363,42 +363,46 @@ fn readings_31(rt: HostRuntime) -> Result<(), Fail> {
     let heap = rt.alloc();
     gives(
         &rt,
+        "readings 31",
         heap,
         &[(0, 3)],
         Some(bad_reading(ReadingFault::Kind, 0, 0)),
     )?;
     gives(
         &rt,
+        "readings 31",
         heap,
         &[(9, 255)],
         Some(bad_reading(ReadingFault::Kind, 1, 9)),
     )?;
     gives(
         &rt,
+        "readings 31",
         heap,
         &[(17, 1)],
         Some(bad_reading(ReadingFault::Spare, 1, 9)),
     )?;
     gives(
         &rt,
+        "readings 31",
         heap,
         &[(12, 0x7F), (13, 0x7F)],
         Some(bad_reading(ReadingFault::Level, 1, 9)),
     )?;
     gives(
         &rt,
+        "the first",
         heap,
         &[(0, 3), (9, 3)],
         Some(bad_reading(ReadingFault::Kind, 0, 0)),
-    )
-    .note("the first")?;
+    )?;
     gives(
         &rt,
+        "31 comes before 35",
         heap,
         &[(9, 3), (18, 4)],
         Some(bad_reading(ReadingFault::Kind, 1, 9)),
-    )
-    .note("31 comes before 35")?;
+    )?;
     let moved = changed(heap, &[(9, 3), (READINGS_AT, 5), (ROWS_AT, 23)])?;
     let bytes = behind_zeros(heap, 5, &moved)?;
     refused(

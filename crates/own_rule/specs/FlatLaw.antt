@@ -7,7 +7,6 @@ use Rattle.weights.proofs.Worth.{worth-one}
 use Rattle.weights.specs.Laws.{Laws}
 use Rattle.weights.specs.Model.{Model}
 use Rattle.weights.specs.Price.{InRange}
-use Rattle.weights.specs.declared.price.Price.{Price}
 use Rattle.weights.specs.declared.price.Price.TheVariants.{Flip}
 use Rattle.rules.specs.Answers.{due}
 use Rattle.rules.specs.Free.{free_move}

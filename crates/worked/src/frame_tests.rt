@@ -59,6 +59,6 @@ fn a_frame_has_its_hard_word_and_weights(rt: HostRuntime) -> Result<(), Fail> {
     };
     let hard = frame.hard.bits.to_string(rt.alloc())?;
     assert!(rt; hard.as_str() == "0010000");
-    assert!(rt; frame.weights.as_slice() == &[256, 256, 128, 256, 64, 256, 256]);
+    assert!(rt; frame.weights.as_slice() == [256, 256, 128, 256, 64, 256, 256].as_slice());
     Ok(())
 }
