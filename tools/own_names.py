@@ -13,22 +13,25 @@ import glob
 import re
 import sys
 
-# lemmas whose plain turn would fall together with the definition that they are about
+# lemmas whose plain turn would fall together with the definition that they are about: the lemma's name then, and the
+# definition's name as it was
 APART = {
-    "ends-before": "ends_before_lem",
-    "is-length": "is_length_lem",
-    "laid_out": "laid_out_lem",
-    "of-readings": "of_readings_lem",
-    "reading-at": "reading_at_lem",
-    "record_of": "record_of_lem",
-    "trailer-bytes": "trailer_bytes_lem",
-    "weight-of": "weight_of_lem",
+    "ends-before": ("ends_before_lem", "endsBefore"),
+    "is-length": ("is_length_lem", "isLength"),
+    "laid_out": ("laid_out_lem", "laidOut"),
+    "of-readings": ("of_readings_lem", "ofReadings"),
+    "reading-at": ("reading_at_lem", "readingAt"),
+    "record_of": ("record_of_lem", "recordOf"),
+    "trailer-bytes": ("trailer_bytes_lem", "trailerBytes"),
+    "weight-of": ("weight_of_lem", "weightOf"),
 }
 
 HEAD = re.compile(
     r"^(?:  )?(?:abbrev pub |unfoldable pub |pub |abbrev |unfoldable )*(?:record |data )?([^\s:(){}\[\],;.]+) *(?:\(|\{|:)",
     re.M,
 )
+# a definition in a module inside a file, or beside another one
+INNER = re.compile(r"^ +(?:abbrev pub |unfoldable pub |pub |abbrev |unfoldable )*([^\s:(){}\[\],;.]+) :", re.M)
 WORD = re.compile(r"[^\s:(){}\[\],;.`\"λ⌜⌝∣∥]+")
 
 
@@ -37,16 +40,12 @@ def sources():
 
 
 def is_odd(name):
-    if name in APART:
-        return True
     if name[0].isupper() or not re.fullmatch(r"[\w'-]+", name):
         return False
     return "-" in name or re.search("[a-z0-9][A-Z]", name) is not None
 
 
 def turned(name):
-    if name in APART:
-        return APART[name]
     return re.sub("(?<=[a-z0-9])([A-Z])", r"_\1", name).replace("-", "_").lower()
 
 
@@ -54,8 +53,11 @@ def table():
     names = set()
     for path in sources():
         with open(path, encoding="utf-8") as f:
-            names |= set(HEAD.findall(f.read()))
-    return {n: turned(n) for n in names if is_odd(n)}, names
+            text = f.read()
+            names |= set(HEAD.findall(text)) | set(INNER.findall(text))
+    to = {n: turned(n) for n in names if is_odd(n)}
+    to |= {n: new for n, (new, beside) in APART.items() if n in names and beside in names}
+    return to, names
 
 
 def code_of(line, mark):
@@ -105,7 +107,7 @@ def main(argv):
             print(f"falls together: {' '.join(olds)} as {new}")
     tokens = {}
     rust = sorted(glob.glob("crates/*/src/**/*.rt", recursive=True))
-    every = sorted(glob.glob("crates/**/*.antt", recursive=True))
+    every = sources() + sorted(glob.glob("crates/*/proofs/*/**/*.antt", recursive=True))
     for path in rust + every:
         with open(path, encoding="utf-8") as f:
             for word in WORD.findall(f.read()):

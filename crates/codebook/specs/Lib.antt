@@ -1,3 +1,4 @@
 pub mod Parity
 pub mod Fields
 pub mod Ranges
+pub mod Sizes

@@ -1,6 +1,6 @@
 // Two tests at once.
-ghost use Rattle.std.specs.Prelude.{◌&&◌, if◌then◌else◌, nat_eq};
-ghost use Rattle.std.proofs.Common.{rules};
+ghost use Rattle.std.specs.Prelude.{◌&&◌, if◌then◌else◌, nat_eq, length};
+ghost use Rattle.codebook.specs.Sizes.{both_pass, shared_length};
 
 use crate::testing::Test;
 use frames::words::Word;
@@ -18,7 +18,9 @@ impl<A: Test, B: Test> Test for Both<A, B> {
 
     ghost accepted = { λ t w. A.Test.accepted t.left w && B.Test.accepted t.right w };
 
-    ghost sized = { Prim.search rules };
+    ghost sized = { λ t w e.
+        let passed = both_pass (A.Test.accepted t.left w) (B.Test.accepted t.right w) e in
+        shared_length (length w) (A.Test.size t.left) (B.Test.size t.right) (A.Test.sized t.left w passed.0) (B.Test.sized t.right w passed.1) };
 
     fn len(&self) -> usize {
         let len = self.left.len();

@@ -5,8 +5,8 @@ ghost use Rattle.frames.specs.Places.{overlap};
 ghost use Rattle.frames.specs.Words.{places};
 ghost use Rattle.frames.specs.Faults.{Answers};
 ghost use Rattle.frames.specs.Tables.{table_of, table_rows};
-ghost use Rattle.codebook.specs.Parity.{row_test_of, accepted_by_rows};
-ghost use Rattle.std.proofs.Common.{rules};
+ghost use Rattle.codebook.specs.Parity.{row_test_of, accepted_by_rows, even_over};
+ghost use Rattle.codebook.specs.Sizes.{tested_length};
 
 use crate::testing::Test;
 use frames::faults::Fault;
@@ -53,7 +53,7 @@ impl Test for RowTest {
 
     ghost accepted = { λ t w. accepted_by_rows (table_of t.table) w };
 
-    ghost sized = { Prim.search rules };
+    ghost sized = { λ t w e. tested_length (length w) (table_of t.table).0 (even_over (table_of t.table).1 w) e };
 
     fn len(&self) -> usize {
         self.table.row_len()

@@ -52,12 +52,12 @@ abs_sum true (suc a) true (suc b) = omega arith
 apart_mul : (s : Bool) (a : ℕ) (t : Bool) (b c : ℕ) → apart s a t b * c ≡ apart s (a * c) t (b * c)
 apart_mul s a t b c = go (beq s t)
   where
-    minus-mul : (x y : ℕ) → (x - y) * c ≡ x * c - y * c
-    minus-mul x y = mul_comm (x - y) c ∙ mul-sub c x y ∙ ap₂ ◌-◌ (mul_comm c x) (mul_comm c y)
+    minus_mul : (x y : ℕ) → (x - y) * c ≡ x * c - y * c
+    minus_mul x y = mul_comm (x - y) c ∙ mul-sub c x y ∙ ap₂ ◌-◌ (mul_comm c x) (mul_comm c y)
 
     go : (w : Bool) → cond w (a + b) (a - b + (b - a)) * c ≡ cond w (a * c + b * c) (a * c - b * c + (b * c - a * c))
     go true = add-mul a b c
-    go false = add-mul (a - b) (b - a) c ∙ ap₂ ◌+◌ (minus-mul a b) (minus-mul b a)
+    go false = add-mul (a - b) (b - a) c ∙ ap₂ ◌+◌ (minus_mul a b) (minus_mul b a)
 
 apart_le : (s : Bool) (a : ℕ) (t : Bool) (b : ℕ) → apart s a t b ≤ a + b
 apart_le s a t b = go (beq s t)

@@ -69,11 +69,11 @@ module _ (xs : List ℕ) where
 
   -- what a file's trailer points at lies in the file
   module _ (t : Trailer) (e : Ok t ≡ trailer_in xs) where
-    pub readings-fit : t.readings_at + 9 * t.n ≤ length xs
-    readings-fit = omega (arith, readings_inside t (trailer_start xs) (good_trailer t e).laid)
+    pub readings_fit : t.readings_at + 9 * t.n ≤ length xs
+    readings_fit = omega (arith, readings_inside t (trailer_start xs) (good_trailer t e).laid)
 
     pub rows_fit : 0 < t.rows → t.rows_at + 16 * t.rows ≤ length xs
     rows_fit h = omega (arith, rows_inside t (trailer_start xs) (good_trailer t e).laid h)
 
-    pub length-fits : is_length t.n ≡ true
-    length-fits = (small t.n t.rows t.guessed t.limit (good_trailer t e).numbered).measured
+    pub length_fits : is_length t.n ≡ true
+    length_fits = (small t.n t.rows t.guessed t.limit (good_trailer t e).numbered).measured

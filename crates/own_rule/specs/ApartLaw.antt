@@ -4,7 +4,7 @@ use Rattle.std.proofs.Common.{arith}
 use Rattle.rules.specs.Layer.{layered}
 use Rattle.rules.specs.Meaning.{HasMeaning, Lawful}
 use Rattle.rules.specs.Trellis.{Trellis}
-use Rattle.rules.specs.Layers.{Closed, passes, layer-lawful}
+use Rattle.rules.specs.Layers.{Closed, passes, layer_lawful}
 use Rattle.rules.specs.Steps.{guarded}
 use Rattle.weights.specs.declared.price.Price.{Price}
 use Rattle.own_rule.specs.Apart.{starts_flipped, no_pairs, apart_turn, apart_own}
@@ -24,4 +24,4 @@ apart_passes (false ∷ bs) i = ((apart_passes bs (suc i)).0, (apart_passes bs (
 
 pub apart_lawful : (t : Trellis) → HasMeaning (layered t.places apart_own t) → (adm : List Bool → Bool) (prices : List Bool → List Price) → Lawful t adm prices
     → Lawful (layered t.places apart_own t) (λ bs. adm bs && no_pairs bs) prices
-apart_lawful t has adm prices below = layer-lawful t.places apart_own t apart_closed refl has adm prices below no_pairs (λ bs e. (apart_passes bs 0).0)
+apart_lawful t has adm prices below = layer_lawful t.places apart_own t apart_closed refl has adm prices below no_pairs (λ bs e. (apart_passes bs 0).0)

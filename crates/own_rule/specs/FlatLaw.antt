@@ -3,7 +3,7 @@ use Rattle.std.specs.Prelude.{◌≡◌, ℕ, suc, ◌+◌, ◌<◌, ◌≤◌, 
 use Rattle.std.proofs.Common.{sym, ap, ◌∙◌, zero-add, one-add, arith}
 use Rattle.std.specs.Option.{option_map}
 use Rattle.frames.specs.Places.{marks}
-use Rattle.weights.proofs.Worth.{worth-one}
+use Rattle.weights.proofs.Worth.{worth_one}
 use Rattle.weights.specs.Laws.{Laws}
 use Rattle.weights.specs.Model.{Model}
 use Rattle.weights.specs.Price.{InRange}
@@ -32,24 +32,24 @@ module _ (n p : ℕ) where
       ]
 
   module _ (low : p < 65536) where
-    flat-cheap : (b : Bool) → length (free_move p b).fees ≤ 2
-    flat-cheap true = omega arith
-    flat-cheap false = omega arith
+    flat_cheap : (b : Bool) → length (free_move p b).fees ≤ 2
+    flat_cheap true = omega arith
+    flat_cheap false = omega arith
 
-    flat-range : (b : Bool) → InRange (free_move p b).fees
-    flat-range true = (low, tt)
-    flat-range false = tt
+    flat_range : (b : Bool) → InRange (free_move p b).fees
+    flat_range true = (low, tt)
+    flat_range false = tt
 
-    pub flat-lawful : Lawful (flat_trellis n p) (λ bs. true) (λ bs. replicate (marks bs) (Flip p))
-    flat-lawful = record {
+    pub flat_lawful : Lawful (flat_trellis n p) (λ bs. true) (λ bs. replicate (marks bs) (Flip p))
+    flat_lawful = record {
       begins = omega arith;
-      fair = unbarred_fair n 1 (λ i s b. free_move p b) (λ i s b. omega arith) (λ i s b. flat-cheap b) (λ i s b. flat-range b);
+      fair = unbarred_fair n 1 (λ i s b. free_move p b) (λ i s b. omega arith) (λ i s b. flat_cheap b) (λ i s b. flat_range b);
       means = λ bs e. flat_walk bs 0 (omega arith);
     }
 
     module _ {V : Type 0} (model : Model V) (laws : Laws model) (i s : ℕ) (b : Bool) (h : i < n) (l : s < 1) (v : V) where
-      pub flat-flips : b ≡ true → v ≡ model.flip p → Some (0, v) ≡ due model ((flat_trellis n p).moves i s b)
-      flat-flips t e = rw t (answers model ((flat_trellis n p).moves i s true) (free_move p true) 0 v (flat_step i s true h l) refl (e ∙ sym (worth-one model laws (Flip p) low)))
+      pub flat_flips : b ≡ true → v ≡ model.flip p → Some (0, v) ≡ due model ((flat_trellis n p).moves i s b)
+      flat_flips t e = rw t (answers model ((flat_trellis n p).moves i s true) (free_move p true) 0 v (flat_step i s true h l) refl (e ∙ sym (worth_one model laws (Flip p) low)))
 
       pub flat_keeps : b ≡ false → v ≡ model.zero → Some (0, v) ≡ due model ((flat_trellis n p).moves i s b)
       flat_keeps t e = rw t (answers model ((flat_trellis n p).moves i s false) (free_move p false) 0 v (flat_step i s false h l) refl e)

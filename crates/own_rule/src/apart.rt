@@ -2,7 +2,7 @@
 ghost use Rattle.own_rule.specs.Apart.{apart_own, apart_turn, no_pairs};
 ghost use Rattle.rules.specs.Layer.{layered};
 ghost use Rattle.std.specs.Prelude.{◌≡◌, ◌&&◌, refl};
-ghost use Rattle.rules.specs.Layers.{below-has};
+ghost use Rattle.rules.specs.Layers.{below_has};
 ghost use Rattle.own_rule.specs.ApartLaw.{apart_closed, apart_lawful};
 
 use rules::layer::{overlay, told};
@@ -40,7 +40,7 @@ impl<R: Rule> Rule for Apart<R> {
 
     ghost meaning = { λ r h.
         let t = R.Rule.trellis r.below in
-        apart_lawful t h (R.Rule.admits r.below) (R.Rule.prices r.below) (R.Rule.meaning r.below (below-has t.places apart_own t apart_closed refl h)) };
+        apart_lawful t h (R.Rule.admits r.below) (R.Rule.prices r.below) (R.Rule.meaning r.below (below_has t.places apart_own t apart_closed refl h)) };
 
     fn length(&self) -> usize {
         self.below.length()

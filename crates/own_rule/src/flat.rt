@@ -3,7 +3,7 @@ ghost use Rattle.std.specs.Prelude.{◌≡◌, ◌<◌, true, replicate};
 ghost use Rattle.frames.specs.Places.{marks};
 ghost use Rattle.own_rule.specs.Flat.{flat_trellis};
 ghost use Rattle.weights.specs.declared.price.Price.TheVariants.{Flip};
-ghost use Rattle.own_rule.specs.FlatLaw.{flat-lawful};
+ghost use Rattle.own_rule.specs.FlatLaw.{flat_lawful};
 
 use rules::rule::Rule;
 use rules::step::Step;
@@ -42,7 +42,7 @@ impl<W: Weight> Rule for Flat<W> {
 
     ghost prices = { λ r bs. replicate (marks bs) (Flip r.price) };
 
-    ghost meaning = { λ r h. flat-lawful r.len r.price r.low };
+    ghost meaning = { λ r h. flat_lawful r.len r.price r.low };
 
     fn length(&self) -> usize {
         self.len

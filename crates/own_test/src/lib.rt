@@ -1,9 +1,9 @@
-// A test of a word written outside the crate `codebook`: the struct, its size and what it accepts, and two methods.
+// A test of a word written outside the crate `codebook`: the struct, its size and what it accepts, the law, and two methods.
 #![tactic(auto)]
 
 ghost use Rattle.std.specs.Prelude.{◌%◌, ◌&&◌, length, ◌==◌};
 ghost use Rattle.frames.specs.Places.{marks};
-ghost use Rattle.std.proofs.Common.{rules};
+ghost use Rattle.codebook.specs.Sizes.{tested_length};
 
 use codebook::testing::Test;
 use frames::words::Word;
@@ -19,7 +19,7 @@ impl Test for EvenMarks {
 
     ghost accepted = { λ t w. (length w == t.len) && marks w % 2 == 0 };
 
-    ghost sized = { Prim.search rules };
+    ghost sized = { λ t w e. tested_length (length w) t.len _ e };
 
     fn len(&self) -> usize {
         self.len

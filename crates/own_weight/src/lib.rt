@@ -1,4 +1,4 @@
-// A kind of weight written outside the crate `weights`: the struct, its model and value, and five methods.
+// A kind of weight written outside the crate `weights`: the struct, its model and value, the laws, and five methods.
 #![tactic(auto)]
 
 ghost use Rattle.std.specs.Prelude.{◌≡◌, ℕ};

@@ -5,6 +5,7 @@
 use jobfile::reading::read;
 use jobfile::writing::write;
 use std::io::{Read, Write};
+use std::process::ExitCode;
 
 // One byte more than a file may have, so that a longer one is seen to be too long.
 const MOST: u64 = 4097;
@@ -24,10 +25,13 @@ fn run(rt: &HostRuntime) -> anyhow::Result<()> {
     Ok(())
 }
 
-fn main(rt: HostRuntime) -> anyhow::Result<()> {
-    let result = run(&rt);
-    if let Err(error) = &result {
-        let _ = eprintln!(rt; "{error}");
+// The fault is printed here and once: an error that `main` returned would be printed after it.
+fn main(rt: HostRuntime) -> ExitCode {
+    match run(&rt) {
+        Ok(()) => ExitCode::SUCCESS,
+        Err(error) => {
+            let _ = eprintln!(rt; "{error}");
+            ExitCode::FAILURE
+        }
     }
-    result
 }

@@ -3,7 +3,7 @@ use Rattle.std.proofs.Common.{◌≡◌, ℕ, suc, ◌+◌, ◌*◌, ◌<◌, �
 use Rattle.std.proofs.lemmas.List.{drop_all}
 use Rattle.std.proofs.lemmas.Bool.{eq-eqb}
 use Rattle.std.specs.Option.{option_map}
-use Rattle.weights.proofs.Worth.{range-++, worth-sum}
+use Rattle.weights.proofs.Worth.{range-++, worth_sum}
 use Rattle.weights.specs.Grade.{Addable}
 use Rattle.weights.specs.Laws.{Laws}
 use Rattle.weights.specs.Model.{Model}
@@ -35,17 +35,17 @@ module _ {V : Type 0} (model : Model V) (t : Trellis) (bs : List Bool) where
 
   module _ (i s : ℕ) (v : V) (b : Bool) (h : i < length bs) (e : b ≡ get_or bs i false) (w : Walked model t bs i s v) where
     -- what is left, by the move at this place
-    at-move : (o : Option Move) → t.moves i s b ≡ o → walked t bs ≡ option_map (λ ps. w.paid ++ ps) (then o (λ m. option_map (λ ps. m.fees ++ ps) (walk t (suc i) m.target (drop (suc i) bs))))
-    at-move o f =
+    at_move : (o : Option Move) → t.moves i s b ≡ o → walked t bs ≡ option_map (λ ps. w.paid ++ ps) (then o (λ m. option_map (λ ps. m.fees ++ ps) (walk t (suc i) m.target (drop (suc i) bs))))
+    at_move o f =
         w.rest
         ∙ ap (λ l. option_map (λ ps. w.paid ++ ps) (walk t i s l)) (drop-cons bs i false h ∙ ap (λ c. c ∷ drop (suc i) bs) (sym e))
         ∙ ap (λ x. option_map (λ ps. w.paid ++ ps) (then x (λ m. option_map (λ ps. m.fees ++ ps) (walk t (suc i) m.target (drop (suc i) bs))))) f
 
-    pub walked-barred : None ≡ due model (t.moves i s b) → walked t bs ≡ None
-    walked-barred a = go (t.moves i s b) refl a
+    pub walked_barred : None ≡ due model (t.moves i s b) → walked t bs ≡ None
+    walked_barred a = go (t.moves i s b) refl a
       where
         go : (o : Option Move) → t.moves i s b ≡ o → None ≡ due model o → walked t bs ≡ None
-        go None f a = at-move None f
+        go None f a = at_move None f
         go (Some m) f a = absurd (let z : ◌≡◌ {A = ℕ} 0 1 = cc in omega arith)
 
     pub walked_more : Laws model → HasMeaning t → (adm : List Bool → Bool) (prices : List Bool → List Price) → Lawful t adm prices
@@ -60,10 +60,10 @@ module _ {V : Type 0} (model : Model V) (t : Trellis) (bs : List Bool) where
             let l : length w.paid + length m.fees ≤ 256 = omega (arith, w.short, fair.cheap, has.short, fair.inside) in
             record {
               paid = w.paid ++ m.fees;
-              worthy = worth-sum model laws w.paid m.fees w.range fair.range l w.worthy (ap (λ x. x.1) p) adds;
+              worthy = worth_sum model laws w.paid m.fees w.range fair.range l w.worthy (ap (λ x. x.1) p) adds;
               range = range-++ w.paid m.fees w.range fair.range;
               short = rw length-append (omega (arith, w.short, fair.cheap));
-              rest = rw (add-one i) (at-move (Some m) f ∙ mapped_twice w.paid m.fees (walk t (suc i) m.target (drop (suc i) bs))
+              rest = rw (add-one i) (at_move (Some m) f ∙ mapped_twice w.paid m.fees (walk t (suc i) m.target (drop (suc i) bs))
                   ∙ ap (λ x. option_map (λ ps. (w.paid ++ m.fees) ++ ps) (walk t (suc i) x (drop (suc i) bs))) (sym (ap (λ x. x.0) p)));
             }
 
@@ -71,16 +71,16 @@ module _ {V : Type 0} (model : Model V) (t : Trellis) (bs : List Bool) where
     at_end : (b : Bool) → t.ends s ≡ b → walked t bs ≡ option_map (λ ps. w.paid ++ ps) (cond b (Some []) None)
     at_end b e = w.rest ∙ ap (λ l. option_map (λ ps. w.paid ++ ps) (walk t i s l)) (drop_all i bs h) ∙ ap (λ c. option_map (λ ps. w.paid ++ ps) (cond c (Some []) None)) e
 
-    pub walked-ends : true ≡ t.ends s → option_map (worth model) (walked t bs) ≡ Some v
-    walked-ends e = ap (option_map (worth model)) (at_end true (sym e)) ∙ ap (λ ps. Some (worth model ps)) (append-nil w.paid) ∙ ap Some (sym w.worthy)
+    pub walked_ends : true ≡ t.ends s → option_map (worth model) (walked t bs) ≡ Some v
+    walked_ends e = ap (option_map (worth model)) (at_end true (sym e)) ∙ ap (λ ps. Some (worth model ps)) (append-nil w.paid) ∙ ap Some (sym w.worthy)
 
-    pub walked-stays : false ≡ t.ends s → walked t bs ≡ None
-    walked-stays e = at_end false (sym e)
+    pub walked_stays : false ≡ t.ends s → walked t bs ≡ None
+    walked_stays e = at_end false (sym e)
 
   -- what the walk is worth is what the pattern weighs
   module _ (adm : List Bool → Bool) (prices : List Bool → List Price) where
-    pub walk-weighs : Lawful t adm prices → length bs ≡ t.places → option_map (worth model) (walked t bs) ≡ weighed model t.places adm prices bs
-    walk-weighs law e = ap (option_map (worth model)) (law.means bs e) ∙ go (adm bs) ∙ ap (λ c. cond (c && adm bs) (Some (worth model (prices bs))) None) (sym (eq-eqb (length bs) t.places e))
+    pub walk_weighs : Lawful t adm prices → length bs ≡ t.places → option_map (worth model) (walked t bs) ≡ weighed model t.places adm prices bs
+    walk_weighs law e = ap (option_map (worth model)) (law.means bs e) ∙ go (adm bs) ∙ ap (λ c. cond (c && adm bs) (Some (worth model (prices bs))) None) (sym (eq-eqb (length bs) t.places e))
       where
         go : (a : Bool) → option_map (worth model) (cond a (Some (prices bs)) None) ≡ cond a (Some (worth model (prices bs))) None
         go true = refl

@@ -2,7 +2,7 @@
 use Rattle.std.specs.Prelude.{◌≡◌, ℕ, suc, ◌+◌, ◌<◌, ◌≤◌, Bool, true, false, cond, List, [], ◌∷◌, ◌++◌, length, drop, Some, None, ◌==◌, nat_lt, slice_index, slice_index_or, refl}
 use Rattle.std.proofs.Common.{sym, ap, ◌∙◌, arith, drop-cons}
 use Rattle.std.specs.Option.{option_map}
-use Rattle.weights.proofs.Worth.{worth-one, worth-sum}
+use Rattle.weights.proofs.Worth.{worth_one, worth_sum}
 use Rattle.weights.specs.Grade.{Addable}
 use Rattle.weights.specs.Laws.{Laws}
 use Rattle.weights.specs.Model.{Model}
@@ -51,31 +51,31 @@ module _ (p : ℕ) (ws : List ℕ) where
       ∙ ap (λ l. Some (burst_prices p before l (b ∷ bs))) (sym (drop-cons ws i 0 h))
 
   module _ (fit : (k : ℕ) → slice_index ws k < 65536) (low : p < 65536) where
-    flip-cheap : (before : Bool) (w : ℕ) (b : Bool) → length (cond b (flip_prices p before w) []) ≤ 2
-    flip-cheap true w true = omega arith
-    flip-cheap false w true = omega arith
-    flip-cheap before w false = omega arith
+    flip_cheap : (before : Bool) (w : ℕ) (b : Bool) → length (cond b (flip_prices p before w) []) ≤ 2
+    flip_cheap true w true = omega arith
+    flip_cheap false w true = omega arith
+    flip_cheap before w false = omega arith
 
-    flip-range : (before : Bool) (w : ℕ) (b : Bool) → w < 65536 → InRange (cond b (flip_prices p before w) [])
-    flip-range true w true h = (h, tt)
-    flip-range false w true h = (h, (low, tt))
-    flip-range before w false h = tt
+    flip_range : (before : Bool) (w : ℕ) (b : Bool) → w < 65536 → InRange (cond b (flip_prices p before w) [])
+    flip_range true w true h = (h, tt)
+    flip_range false w true h = (h, (low, tt))
+    flip_range before w false h = tt
 
-    pub burst-lawful : Lawful (burst_trellis p ws) (λ bs. true) (burst_prices p false ws)
-    burst-lawful = record {
+    pub burst_lawful : Lawful (burst_trellis p ws) (λ bs. true) (burst_prices p false ws)
+    burst_lawful = record {
       begins = omega arith;
-      fair = unbarred_fair (length ws) 2 (λ i s b. burst_move p s (slice_index ws i) b) (λ i s b. after_low b) (λ i s b. flip-cheap (s == 1) (slice_index ws i) b) (λ i s b. flip-range (s == 1) (slice_index ws i) b (fit i));
+      fair = unbarred_fair (length ws) 2 (λ i s b. burst_move p s (slice_index ws i) b) (λ i s b. after_low b) (λ i s b. flip_cheap (s == 1) (slice_index ws i) b) (λ i s b. flip_range (s == 1) (slice_index ws i) b (fit i));
       means = λ bs e. burst_walk bs 0 false (omega arith);
     }
 
     module _ {V : Type 0} (model : Model V) (laws : Laws model) (i s : ℕ) (b : Bool) (h : i < length ws) (t : b ≡ true) (v : V) (e : v ≡ model.flip (slice_index ws i)) where
       flipped : v ≡ worth model (Flip (slice_index ws i) ∷ [])
-      flipped = e ∙ sym (worth-one model laws (Flip (slice_index ws i)) (fit i))
+      flipped = e ∙ sym (worth_one model laws (Flip (slice_index ws i)) (fit i))
 
-      pub burst-goes-on : s ≡ 1 → Some (1, v) ≡ due model ((burst_trellis p ws).moves i s b)
-      burst-goes-on k = rw (t, k) (answers model ((burst_trellis p ws).moves i 1 true) (burst_move p 1 (slice_index ws i) true) 1 v (burst_step i 1 true h (omega arith)) refl flipped)
+      pub burst_goes_on : s ≡ 1 → Some (1, v) ≡ due model ((burst_trellis p ws).moves i s b)
+      burst_goes_on k = rw (t, k) (answers model ((burst_trellis p ws).moves i 1 true) (burst_move p 1 (slice_index ws i) true) 1 v (burst_step i 1 true h (omega arith)) refl flipped)
 
-      pub burst-begins : s ≡ 0 → (u sum : V) → u ≡ model.surcharge p → (Addable model v u → sum ≡ model.plus v u) → Some (1, sum) ≡ due model ((burst_trellis p ws).moves i s b)
-      burst-begins k u sum f adds =
+      pub burst_begins : s ≡ 0 → (u sum : V) → u ≡ model.surcharge p → (Addable model v u → sum ≡ model.plus v u) → Some (1, sum) ≡ due model ((burst_trellis p ws).moves i s b)
+      burst_begins k u sum f adds =
           rw (t, k) (answers model ((burst_trellis p ws).moves i 0 true) (burst_move p 0 (slice_index ws i) true) 1 sum (burst_step i 0 true h (omega arith)) refl
-          (worth-sum model laws (Flip (slice_index ws i) ∷ []) (Surcharge p ∷ []) (fit i, tt) (low, tt) (omega arith) flipped (f ∙ sym (worth-one model laws (Surcharge p) low)) adds))
+          (worth_sum model laws (Flip (slice_index ws i) ∷ []) (Surcharge p ∷ []) (fit i, tt) (low, tt) (omega arith) flipped (f ∙ sym (worth_one model laws (Surcharge p) low)) adds))

@@ -8,7 +8,7 @@ use Rattle.rules.specs.Cap.{cap_turn, cap_own}
 use Rattle.rules.specs.Layer.{layered}
 use Rattle.rules.specs.Meaning.{HasMeaning, Lawful}
 use Rattle.rules.specs.Trellis.{Trellis}
-use Rattle.rules.specs.Layers.{Closed, passes, layer-lawful}
+use Rattle.rules.specs.Layers.{Closed, passes, layer_lawful}
 use Rattle.rules.specs.Steps.{guarded}
 
 module _ (most : ℕ) where
@@ -30,5 +30,5 @@ module _ (most : ℕ) where
   pub cap_lawful : (t : Trellis) → HasMeaning (layered t.places (cap_own most) t) → (adm : List Bool → Bool) (prices : List Bool → List Price) → Lawful t adm prices
       → Lawful (layered t.places (cap_own most) t) (λ bs. adm bs && nat_le (marks bs) most) prices
   cap_lawful t has adm prices below =
-      layer-lawful t.places (cap_own most) t cap_closed refl has adm prices below (λ bs. leb (marks bs) most)
+      layer_lawful t.places (cap_own most) t cap_closed refl has adm prices below (λ bs. leb (marks bs) most)
       (λ bs e. cap_passes bs 0 0 (omega arith) ∙ ap (λ n. leb n most) (zero-add (marks bs)))

@@ -2,7 +2,7 @@
 use Rattle.std.specs.Prelude.{◌≡◌, ℕ, suc, ◌+◌, ◌<◌, ◌≤◌, Bool, true, false, List, [], ◌∷◌, ◌++◌, length, drop, Some, slice_index, slice_index_or, refl}
 use Rattle.std.proofs.Common.{sym, ap, ◌∙◌, arith, drop-cons}
 use Rattle.std.specs.Option.{option_map}
-use Rattle.weights.proofs.Worth.{worth-one}
+use Rattle.weights.proofs.Worth.{worth_one}
 use Rattle.weights.specs.Laws.{Laws}
 use Rattle.weights.specs.Model.{Model}
 use Rattle.weights.specs.Price.{InRange}
@@ -33,24 +33,24 @@ module _ (ws : List ℕ) where
       ∙ ap (λ l. Some (cell_prices l (b ∷ bs))) (sym (drop-cons ws i 0 h))
 
   module _ (fit : (k : ℕ) → slice_index ws k < 65536) where
-    free-cheap : (w : ℕ) (b : Bool) → length (free_move w b).fees ≤ 2
-    free-cheap w true = omega arith
-    free-cheap w false = omega arith
+    free_cheap : (w : ℕ) (b : Bool) → length (free_move w b).fees ≤ 2
+    free_cheap w true = omega arith
+    free_cheap w false = omega arith
 
-    free-range : (w : ℕ) (b : Bool) → w < 65536 → InRange (free_move w b).fees
-    free-range w true h = (h, tt)
-    free-range w false h = tt
+    free_range : (w : ℕ) (b : Bool) → w < 65536 → InRange (free_move w b).fees
+    free_range w true h = (h, tt)
+    free_range w false h = tt
 
-    pub free-lawful : Lawful (free_trellis ws) (λ bs. true) (cell_prices ws)
-    free-lawful = record {
+    pub free_lawful : Lawful (free_trellis ws) (λ bs. true) (cell_prices ws)
+    free_lawful = record {
       begins = omega arith;
-      fair = unbarred_fair (length ws) 1 (λ i s b. free_move (slice_index ws i) b) (λ i s b. omega arith) (λ i s b. free-cheap (slice_index ws i) b) (λ i s b. free-range (slice_index ws i) b (fit i));
+      fair = unbarred_fair (length ws) 1 (λ i s b. free_move (slice_index ws i) b) (λ i s b. omega arith) (λ i s b. free_cheap (slice_index ws i) b) (λ i s b. free_range (slice_index ws i) b (fit i));
       means = λ bs e. free_walk bs 0 (omega arith);
     }
 
     module _ {V : Type 0} (model : Model V) (laws : Laws model) (i s : ℕ) (b : Bool) (h : i < length ws) (l : s < 1) (v : V) where
-      pub free-flips : b ≡ true → v ≡ model.flip (slice_index ws i) → Some (0, v) ≡ due model ((free_trellis ws).moves i s b)
-      free-flips t e = rw t (answers model ((free_trellis ws).moves i s true) (free_move (slice_index ws i) true) 0 v (free_step i s true h l) refl (e ∙ sym (worth-one model laws (Flip (slice_index ws i)) (fit i))))
+      pub free_flips : b ≡ true → v ≡ model.flip (slice_index ws i) → Some (0, v) ≡ due model ((free_trellis ws).moves i s b)
+      free_flips t e = rw t (answers model ((free_trellis ws).moves i s true) (free_move (slice_index ws i) true) 0 v (free_step i s true h l) refl (e ∙ sym (worth_one model laws (Flip (slice_index ws i)) (fit i))))
 
-      pub free-keeps : b ≡ false → v ≡ model.zero → Some (0, v) ≡ due model ((free_trellis ws).moves i s b)
-      free-keeps t e = rw t (answers model ((free_trellis ws).moves i s false) (free_move (slice_index ws i) false) 0 v (free_step i s false h l) refl e)
+      pub free_keeps : b ≡ false → v ≡ model.zero → Some (0, v) ≡ due model ((free_trellis ws).moves i s b)
+      free_keeps t e = rw t (answers model ((free_trellis ws).moves i s false) (free_move (slice_index ws i) false) 0 v (free_step i s false h l) refl e)

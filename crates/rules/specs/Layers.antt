@@ -72,8 +72,8 @@ module _ (n : ℕ) (o : Own) (t : Trellis) (closed : Closed o) where
     few : t.states * o.factor ≤ 1024
     few = omega (arith, has.few)
 
-    pub below-has : HasMeaning t
-    below-has = record {
+    pub below_has : HasMeaning t
+    below_has = record {
       some = omega (arith, has.some);
       short = omega (arith, has.short);
       few = omega (arith, few, mul-le t.states 1 t.states o.factor (omega arith) (omega (arith, closed.begins)), mul-one t.states);
@@ -83,8 +83,8 @@ module _ (n : ℕ) (o : Own) (t : Trellis) (closed : Closed o) where
       within : (s q : ℕ) → s < t.states → q < o.factor → s * o.factor + q < t.states * o.factor
       within s q h k = omega (arith, mul-add-lt s o.factor q t.states h k, mul_comm t.states o.factor)
 
-      layer-fair : (i s : ℕ) (b : Bool) (m : Move) → (layered n o t).moves i s b ≡ Some m → Fair (layered n o t) i s m
-      layer-fair i s b m e =
+      layer_fair : (i s : ℕ) (b : Bool) (m : Move) → (layered n o t).moves i s b ≡ Some m → Fair (layered n o t) i s m
+      layer_fair i s b m e =
           let p = both_parts o.factor (t.moves i (s / o.factor) b) (o.turn i (s % o.factor) b) m e in
           let f = below.fair i (s / o.factor) b p.0 p.2 in
           let l = mod_below s o.factor (omega (arith, closed.begins)) in
@@ -97,10 +97,10 @@ module _ (n : ℕ) (o : Own) (t : Trellis) (closed : Closed o) where
           })
 
       -- it admits what the rule below admits and its own part lets pass
-      pub layer-lawful : (own : List Bool → Bool) → ((bs : List Bool) → length bs ≡ n → passes o 0 o.start bs ≡ own bs) → Lawful (layered n o t) (λ bs. adm bs && own bs) prices
-      layer-lawful own says = record {
+      pub layer_lawful : (own : List Bool → Bool) → ((bs : List Bool) → length bs ≡ n → passes o 0 o.start bs ≡ own bs) → Lawful (layered n o t) (λ bs. adm bs && own bs) prices
+      layer_lawful own says = record {
         begins = omega (arith, within t.start o.start below.begins closed.begins, few);
-        fair = layer-fair;
+        fair = layer_fair;
         means = λ bs e.
             layer_walk bs 0 t.start o.start closed.begins
             ∙ ap₂ (λ a w. cond a w None) (says bs e) (below.means bs (e ∙ same))
@@ -108,17 +108,17 @@ module _ (n : ℕ) (o : Own) (t : Trellis) (closed : Closed o) where
       }
 
       -- the code's product for the start does not wrap
-      pub layer-starts : (s f : ℕ) → s ≡ t.start → f ≡ o.factor → o.start ≡ 0 → s * f % 2 ^ 64 ≡ t.start * o.factor + o.start
-      layer-starts s f e g z =
+      pub layer_starts : (s f : ℕ) → s ≡ t.start → f ≡ o.factor → o.start ≡ 0 → s * f % 2 ^ 64 ≡ t.start * o.factor + o.start
+      layer_starts s f e g z =
           let l = within t.start o.start below.begins closed.begins in
           let p : s * f ≡ t.start * o.factor + o.start = ap₂ ◌*◌ e g ∙ (let q : t.start * o.factor ≡ t.start * o.factor + o.start = omega arith in q) in
           mod-eq_of_lt (omega (arith, few)) ∙ p
 
       -- what the code makes of a step below and a turn is the layer's step
-      pub layer-answers : {V C : Type 0} (model : Model V) (value : C → V) (i s f up own : ℕ) (b : Bool) (r : Option (Step C)) (q : Option ℕ) (out : Option (Step C))
+      pub layer_answers : {V C : Type 0} (model : Model V) (value : C → V) (i s f up own : ℕ) (b : Bool) (r : Option (Step C)) (q : Option ℕ) (out : Option (Step C))
           → f ≡ o.factor → up ≡ s / o.factor → own ≡ s % o.factor → out ≡ overlaid f r q → answered value r ≡ due model (t.moves i up b) → (i < n → q ≡ o.turn i own b)
           → answered value out ≡ due model ((layered n o t).moves i s b)
-      layer-answers {V} {C} model value i s f up own b r q out e j k d a w =
+      layer_answers {V} {C} model value i s f up own b r q out e j k d a w =
           ap (answered value) (d ∙ ap (λ x. overlaid x r q) e)
           ∙ go (t.moves i (s / o.factor) b) refl r (a ∙ ap (λ x. due model (t.moves i x b)) j) (λ h. w h ∙ ap (λ x. o.turn i x b) k)
         where

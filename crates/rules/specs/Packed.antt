@@ -34,8 +34,8 @@ module _ {X : Type 0} (f : X → Bool) (xs : List X) where
         ap₂ (λ x y. x * 2 + y) e (g ∙ byte_is b) ∙ sym (ap packed c)
 
     -- of at most six there is room for one more in a byte
-    pub packed-room : length xs ≤ 6 → v * 2 + w < 64
-    packed-room h =
+    pub packed_room : length xs ≤ 6 → v * 2 + w < 64
+    packed_room h =
         let l : length (drop i (map f xs)) ≤ 5 = omega (arith, length-drop i (map f xs), length-map xs f) in
         let p : 2 ^ length (drop i (map f xs)) ≤ 2 ^ 5 = pow_mono l in
         omega (arith, packed_low (drop i (map f xs)), byte_is b, digit_low b)

@@ -20,7 +20,7 @@ use Rattle.rules.specs.Layer.{agreed, layered}
 use Rattle.rules.specs.Meaning.{HasMeaning, Lawful}
 use Rattle.rules.specs.Rows.{rows_from, alike, packed, marks_at, columns_of, parities, rows_own}
 use Rattle.rules.specs.Trellis.{Trellis}
-use Rattle.rules.specs.Layers.{Closed, passes, agreed_both, below-has, layer-lawful}
+use Rattle.rules.specs.Layers.{Closed, passes, agreed_both, below_has, layer_lawful}
 use Rattle.rules.specs.Packed.{packed_low, packed_none, packed_xor, packed_equal}
 
 pub overlap_none : (bs : List Bool) → overlap bs [] ≡ 0
@@ -101,10 +101,10 @@ module _ (table : List (List Bool)) (word : List Bool) where
     pub rows_agree : (agreed n t.places ≡ t.places) × (n ≡ t.places)
     rows_agree = agreed_both n t.places has.some
 
-    pub rows-below : HasMeaning t
-    rows-below = below-has (agreed n t.places) (rows_own table word) t rows_closed rows_agree.0 has
+    pub rows_below : HasMeaning t
+    rows_below = below_has (agreed n t.places) (rows_own table word) t rows_closed rows_agree.0 has
 
-    pub rows-lawful : (adm : List Bool → Bool) (prices : List Bool → List Price) → Lawful t adm prices
+    pub rows_lawful : (adm : List Bool → Bool) (prices : List Bool → List Price) → Lawful t adm prices
         → Lawful (layered (agreed n t.places) (rows_own table word) t) (λ bs. adm bs && alike table bs word) prices
-    rows-lawful adm prices below =
-        layer-lawful (agreed n t.places) (rows_own table word) t rows_closed rows_agree.0 has adm prices below (λ bs. alike table bs word) (λ bs e. rows_alike bs)
+    rows_lawful adm prices below =
+        layer_lawful (agreed n t.places) (rows_own table word) t rows_closed rows_agree.0 has adm prices below (λ bs. alike table bs word) (λ bs e. rows_alike bs)

@@ -3,7 +3,7 @@ ghost use Rattle.std.specs.Prelude.{◌≡◌, ℕ, ◌<◌, true, false, IfOk, 
 ghost use Rattle.frames.specs.Faults.{Answers};
 ghost use Rattle.rules.specs.Burst.{burst_prices, burst_trellis};
 ghost use Rattle.rules.specs.Made.{cells_from};
-ghost use Rattle.rules.specs.BurstLaw.{burst-lawful};
+ghost use Rattle.rules.specs.BurstLaw.{burst_lawful};
 
 use crate::rule::Rule;
 use crate::step::Step;
@@ -49,7 +49,7 @@ impl<W: Weight> Rule for Burst<W> {
 
     ghost prices = { λ r bs. burst_prices r.surcharge false r.weights.items bs };
 
-    ghost meaning = { λ r h. burst-lawful r.surcharge r.weights.items r.fit r.low };
+    ghost meaning = { λ r h. burst_lawful r.surcharge r.weights.items r.fit r.low };
 
     fn length(&self) -> usize {
         self.weights.len()

@@ -5,7 +5,7 @@ ghost use Rattle.frames.specs.Places.{marks};
 ghost use Rattle.rules.specs.Cap.{cap_from, cap_own, cap_turn};
 ghost use Rattle.rules.specs.Layer.{layered};
 ghost use Rattle.rules.specs.CapLaw.{cap_closed, cap_lawful};
-ghost use Rattle.rules.specs.Layers.{below-has};
+ghost use Rattle.rules.specs.Layers.{below_has};
 
 use crate::layer::{overlay, told};
 use crate::rule::Rule;
@@ -66,7 +66,7 @@ impl<R: Rule> Rule for Cap<R> {
 
     ghost meaning = { λ r h.
         let t = R.Rule.trellis r.below in
-        cap_lawful r.most t h (R.Rule.admits r.below) (R.Rule.prices r.below) (R.Rule.meaning r.below (below-has t.places (cap_own r.most) t (cap_closed r.most) refl h)) };
+        cap_lawful r.most t h (R.Rule.admits r.below) (R.Rule.prices r.below) (R.Rule.meaning r.below (below_has t.places (cap_own r.most) t (cap_closed r.most) refl h)) };
 
     fn length(&self) -> usize {
         self.below.length()

@@ -3,7 +3,7 @@ ghost use Rattle.std.specs.Prelude.{ℕ, ◌<◌, true, slice_index};
 ghost use Rattle.frames.specs.Faults.{Answers};
 ghost use Rattle.rules.specs.Free.{cell_prices, free_trellis};
 ghost use Rattle.rules.specs.Made.{cells_from};
-ghost use Rattle.rules.specs.FreeLaw.{free-lawful};
+ghost use Rattle.rules.specs.FreeLaw.{free_lawful};
 
 use crate::rule::Rule;
 use crate::step::Step;
@@ -45,7 +45,7 @@ impl<W: Weight> Rule for Free<W> {
 
     ghost prices = { λ r bs. cell_prices r.weights.items bs };
 
-    ghost meaning = { λ r h. free-lawful r.weights.items r.fit };
+    ghost meaning = { λ r h. free_lawful r.weights.items r.fit };
 
     fn length(&self) -> usize {
         self.weights.len()

@@ -34,8 +34,8 @@ module _ {V : Type 0} (m : Model V) where
 
   module _ (laws : Laws m) where
     -- one price alone
-    pub worth-one : (p : Price) → asked p < 65536 → worth m (p ∷ []) ≡ price_of m p
-    worth-one p h = laws.zero_right (record { grade = 1; graded = price_graded p h; small = omega arith })
+    pub worth_one : (p : Price) → asked p < 65536 → worth m (p ∷ []) ≡ price_of m p
+    worth_one p h = laws.zero_right (record { grade = 1; graded = price_graded p h; small = omega arith })
 
     -- joined lists are worth the sum
     pub worth-++ : Joins m
@@ -45,6 +45,6 @@ module _ {V : Type 0} (m : Model V) where
         ∙ sym (laws.associative (price_graded p h.0) (worth_graded ps h.1) (worth_graded qs k) (omega arith))
 
     -- so is whatever answers the sum of their worths where that is promised
-    pub worth-sum : (ps qs : List Price) {a b s : V} → InRange ps → InRange qs → length ps + length qs ≤ 256 → a ≡ worth m ps → b ≡ worth m qs
+    pub worth_sum : (ps qs : List Price) {a b s : V} → InRange ps → InRange qs → length ps + length qs ≤ 256 → a ≡ worth m ps → b ≡ worth m qs
         → (Addable m a b → s ≡ m.plus a b) → s ≡ worth m (ps ++ qs)
-    worth-sum ps qs h k l e f sums = sums (rw (e, f) (worth_addable ps qs h k l)) ∙ ap₂ m.plus e f ∙ sym (worth-++ ps qs h k l)
+    worth_sum ps qs h k l e f sums = sums (rw (e, f) (worth_addable ps qs h k l)) ∙ ap₂ m.plus e f ∙ sym (worth-++ ps qs h k l)

@@ -4,7 +4,7 @@ ghost use Rattle.frames.specs.Faults.{answer};
 ghost use Rattle.frames.specs.Words.{places};
 ghost use Rattle.codebook.specs.Fields.{field_number, accepted_by_field, field_test_of};
 ghost use Rattle.codebook.specs.Ranges.{range_of};
-ghost use Rattle.std.proofs.Common.{rules, arith};
+ghost use Rattle.codebook.specs.Sizes.{tested_length};
 
 use crate::fields::FieldTest;
 use crate::testing::Test;
@@ -67,7 +67,7 @@ impl Test for FieldTest {
 
     ghost accepted = { λ t w. accepted_by_field (range_of t) w };
 
-    ghost sized = { first_of (Prim.search rules, Prim.grind (arith, Self.row.coded.inj)) };
+    ghost sized = { λ t w e. tested_length (length w) (range_of t).long _ e };
 
     fn len(&self) -> usize {
         self.len

@@ -5,7 +5,7 @@ ghost use Rattle.frames.specs.Tables.{table_of, table_rows};
 ghost use Rattle.frames.specs.Words.{places};
 ghost use Rattle.rules.specs.Layer.{agreed, layered};
 ghost use Rattle.rules.specs.Rows.{alike, rows_from, rows_own};
-ghost use Rattle.rules.specs.RowsLaw.{rows-below, rows-lawful};
+ghost use Rattle.rules.specs.RowsLaw.{rows_below, rows_lawful};
 
 use crate::layer::{overlay, told};
 use crate::rows::Rows;
@@ -92,7 +92,7 @@ impl<R: Rule> Rule for Rows<R> {
         let t = R.Rule.trellis r.below in
         let table = table_rows r.table in
         let word = places r.hard.bits in
-        rows-lawful table word (length word) t h (R.Rule.admits r.below) (R.Rule.prices r.below) (R.Rule.meaning r.below (rows-below table word (length word) t h)) };
+        rows_lawful table word (length word) t h (R.Rule.admits r.below) (R.Rule.prices r.below) (R.Rule.meaning r.below (rows_below table word (length word) t h)) };
 
     fn length(&self) -> usize {
         let own = self.hard.bits.len();

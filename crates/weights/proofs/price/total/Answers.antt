@@ -3,7 +3,7 @@ use Rattle.std.proofs.ByRecursion.{All-more}
 use Rattle.std.proofs.lemmas.List.{take_more}
 use Rattle.weights.specs.Price.{asked, worth}
 use Rattle.weights.specs.declared.price.Price.TheVariants.{Flip}
-use Rattle.weights.proofs.Worth.{worth-one, worth-sum}
+use Rattle.weights.proofs.Worth.{worth_one, worth_sum}
 use Rattle.weights.proofs.price.total.Goals as goal
 
 pub loop-price-init : goal.loop-price-init
@@ -19,9 +19,9 @@ loop-price-preserved g c =
     let p = get_or ps i (Flip 0) in
     let within = c.loop-price-test.true in
     let low = c.weight.ensures.range in
-    let one = c.weight.ensures.value ∙ sym (worth-one m laws p low) in (
+    let one = c.weight.ensures.value ∙ sym (worth_one m laws p low) in (
       All-more (λ q. asked q < 65536) ps i (Flip 0) within inv.0 low,
-      λ short. worth-sum m laws (take i ps) (p ∷ []) inv.0 (low, tt) (simp length-take (omega arith)) (inv.1 short) one c.plus-sum.ensures
+      λ short. worth_sum m laws (take i ps) (p ∷ []) inv.0 (low, tt) (simp length-take (omega arith)) (inv.1 short) one c.plus-sum.ensures
           ∙ ap (worth m) (sym (take_more ps i (Flip 0) within)),
     )
 
