@@ -6,7 +6,7 @@ usage: python3 tools/own_names.py [--dry]      at the top of the repository, onc
 A name is taken if a file of specs/ or a lemma file of proofs/ defines it, as a definition, a field or a constructor,
 and if it has a dash or a capital after a small letter. Types, modules and facts (a capital first) and names that end
 in an operator stay. Code and clauses of .rt files, .antt files and must-fail edits are turned; comments and texts in
-quotes are not, and the pages of docs/ are turned where a name stands between backticks.
+quotes are not, and README.md and the pages of docs/ are turned where a name stands between backticks.
 """
 
 import glob
