@@ -1,19 +1,15 @@
--- No two neighbouring flips: the layer keeps the law.
-use Rattle.std.specs.Prelude.{◌≡◌, ℕ, suc, ◌<◌, Bool, true, false, not, ◌&&◌, List, [], ◌∷◌, Some, ◌==◌, refl}
+-- No two neighbouring flips keep the law of a layer.
+use Rattle.std.specs.Prelude.{◌≡◌, ℕ, suc, ◌<◌, Bool, true, false, not, ◌&&◌, List, [], ◌∷◌, Some, None, ◌==◌, refl}
 use Rattle.std.proofs.Common.{arith}
-use Rattle.rules.specs.Layer.{layered}
-use Rattle.rules.specs.Meaning.{HasMeaning, Lawful}
-use Rattle.rules.specs.Trellis.{Trellis}
-use Rattle.rules.specs.Layers.{Closed, passes, layer_lawful}
+use Rattle.rules.specs.Layer.{Closed, Keeps, passes}
 use Rattle.rules.specs.Steps.{guarded}
-use Rattle.weights.specs.declared.price.Price.{Price}
 use Rattle.own_rule.specs.Apart.{starts_flipped, no_pairs, apart_turn, apart_own}
 
 apart_low : (q : ℕ) (b : Bool) (r : ℕ) → apart_turn q b ≡ Some r → r < 2
 apart_low q true r e = let g = guarded (q == 0) 1 r e in omega (arith, g.1)
 apart_low q false r e = let g : 0 ≡ r = cc in omega arith
 
-pub apart_closed : Closed apart_own
+apart_closed : Closed apart_own
 apart_closed = record { begins = omega arith; turns = λ i q b r h e. apart_low q b r e }
 
 -- after a flip, and after none
@@ -22,6 +18,5 @@ apart_passes [] i = (refl, refl)
 apart_passes (true ∷ bs) i = ((apart_passes bs (suc i)).1, refl)
 apart_passes (false ∷ bs) i = ((apart_passes bs (suc i)).0, (apart_passes bs (suc i)).0)
 
-pub apart_lawful : (t : Trellis) → HasMeaning (layered t.places apart_own t) → (adm : List Bool → Bool) (prices : List Bool → List Price) → Lawful t adm prices
-    → Lawful (layered t.places apart_own t) (λ bs. adm bs && no_pairs bs) prices
-apart_lawful t has adm prices below = layer_lawful t.places apart_own t apart_closed refl has adm prices below no_pairs (λ bs e. (apart_passes bs 0).0)
+pub apart_keeps : Keeps None apart_own no_pairs
+apart_keeps = record { closed = apart_closed; means = λ bs _. (apart_passes bs 0).0 }

@@ -6,7 +6,7 @@ pub mod flat;
 
 #[cfg(test)]
 mod tests {
-    use crate::apart::Apart;
+    use crate::apart::{Apart, NoPairs};
     use crate::flat::Flat;
     use frames::bits::Bits;
     use frames::halves::Halves;
@@ -41,7 +41,10 @@ mod tests {
     #[test]
     fn neighbours_are_barred(rt: HostRuntime) -> Result<(), Fail> {
         let flat: Flat<Level> = Flat::new(3, 10);
-        let rule = Apart { below: flat };
+        let rule = Apart {
+            below: flat,
+            layer: NoPairs,
+        };
         assert_eq!(rt; rule.states(), 2);
         for number in 0..8 {
             let apart = number != 0b011 && number != 0b110 && number != 0b111;

@@ -1,14 +1,10 @@
--- Cap keeps the law.
-use Rattle.std.specs.Prelude.{◌≡◌, ℕ, suc, ◌+◌, ◌<◌, ◌≤◌, Bool, true, false, ◌&&◌, leb, List, [], ◌∷◌, Some, nat_le, nat_lt, refl}
+-- Cap keeps the law of a layer.
+use Rattle.std.specs.Prelude.{◌≡◌, ℕ, suc, ◌+◌, ◌<◌, ◌≤◌, Bool, true, false, ◌&&◌, leb, List, [], ◌∷◌, Some, None, nat_le, nat_lt, refl}
 use Rattle.std.proofs.Common.{inl, inr, sym, ap, ◌∙◌, zero-add, arith}
 use Rattle.frames.specs.Places.{marks}
 use Rattle.std.proofs.lemmas.Bool.{cases_Bool, ltb-true, ltb-false, le-leb, lt-leb}
-use Rattle.weights.specs.declared.price.Price.{Price}
 use Rattle.rules.specs.Cap.{cap_turn, cap_own}
-use Rattle.rules.specs.Layer.{layered}
-use Rattle.rules.specs.Meaning.{HasMeaning, Lawful}
-use Rattle.rules.specs.Trellis.{Trellis}
-use Rattle.rules.specs.Layers.{Closed, passes, layer_lawful}
+use Rattle.rules.specs.Layer.{Closed, Keeps, passes}
 use Rattle.rules.specs.Steps.{guarded}
 
 module _ (most : ℕ) where
@@ -16,7 +12,7 @@ module _ (most : ℕ) where
   cap_low q true r h e = let g = guarded (nat_lt q most) (q + 1) r e in omega (arith, ltb-true q most g.0, g.1)
   cap_low q false r h e = let g : q ≡ r = cc in omega arith
 
-  pub cap_closed : Closed (cap_own most)
+  cap_closed : Closed (cap_own most)
   cap_closed = record { begins = omega arith; turns = λ i q b r h e. cap_low q b r h e }
 
   cap_passes : (bs : List Bool) (i q : ℕ) → q ≤ most → passes (cap_own most) i q bs ≡ nat_le (q + marks bs) most
@@ -27,8 +23,5 @@ module _ (most : ℕ) where
     | inr e ↦ rw e (sym (lt-leb (q + (1 + marks bs)) most (omega (arith, ltb-false q most e))))
   ]
 
-  pub cap_lawful : (t : Trellis) → HasMeaning (layered t.places (cap_own most) t) → (adm : List Bool → Bool) (prices : List Bool → List Price) → Lawful t adm prices
-      → Lawful (layered t.places (cap_own most) t) (λ bs. adm bs && nat_le (marks bs) most) prices
-  cap_lawful t has adm prices below =
-      layer_lawful t.places (cap_own most) t cap_closed refl has adm prices below (λ bs. leb (marks bs) most)
-      (λ bs e. cap_passes bs 0 0 (omega arith) ∙ ap (λ n. leb n most) (zero-add (marks bs)))
+  pub cap_keeps : Keeps None (cap_own most) (λ bs. nat_le (marks bs) most)
+  cap_keeps = record { closed = cap_closed; means = λ bs _. cap_passes bs 0 0 (omega arith) ∙ ap (λ n. nat_le n most) (zero-add (marks bs)) }

@@ -1,27 +1,18 @@
 -- A layer keeps the law, if its own part stays within its states and the rule below keeps it.
-use Rattle.std.specs.Prelude.{◌≡◌, ℕ, suc, ◌+◌, ◌*◌, ◌/◌, ◌%◌, ◌^◌, ◌<◌, ◌≤◌, Bool, true, false, cond, ◌&&◌, List, [], ◌∷◌, ◌++◌, length, Some, None, Option, ◌==◌, nat_lt, refl}
+use Rattle.std.specs.Prelude.{◌≡◌, ℕ, suc, ◌+◌, ◌*◌, ◌/◌, ◌%◌, ◌^◌, ◌<◌, ◌≤◌, Bool, true, false, cond, ◌&&◌, List, [], ◌∷◌, ◌++◌, length, IfSome, Some, None, Option, ◌==◌, nat_lt, refl}
 use Rattle.std.proofs.Common.{inl, inr, sym, ap, ap₂, subst, ◌∙◌, mod-eq_of_lt, mul_comm, mul-one, arith}
 use Rattle.std.proofs.lemmas.Nat.{mul-add-lt, div-mul-add, mod-mul-add, mod_below, div-add-mod', mul-le}
 use Rattle.std.proofs.lemmas.Bool.{cases_Bool, eqb-true, lt-ltb}
+use Rattle.std.proofs.lemmas.Option.{IfSome_then}
 use Rattle.std.specs.Option.{option_map, unwrap_or}
 use Rattle.weights.specs.Model.{Model}
 use Rattle.weights.specs.Price.{worth}
 use Rattle.weights.specs.declared.price.Price.{Price}
 use Rattle.rules.specs.Answers.{answered, due}
-use Rattle.rules.specs.Layer.{Own, product, agreed, joint, layered, overlaid}
+use Rattle.rules.specs.Layer.{Own, Closed, Keeps, passes, product, agreed, layer_length, joint, layered, overlaid}
 use Rattle.rules.specs.Meaning.{HasMeaning, Fair, Lawful}
 use Rattle.rules.specs.Trellis.{Move, Trellis, then, walk}
 use Rattle.rules.specs.declared.step.Step.{Step}
-
--- own states stay below the factor
-pub record Closed (o : Own) : Type 0 where
-  pub begins : o.start < o.factor
-  pub turns : (i q : ℕ) (b : Bool) (r : ℕ) → q < o.factor → o.turn i q b ≡ Some r → r < o.factor
-
--- whether the own part lets flips pass, from a place and an own state on
-abbrev pub passes : Own → ℕ → ℕ → List Bool → Bool
-passes o i q [] = o.ends q
-passes o i q (b ∷ bs) = unwrap_or (option_map (λ r. passes o (suc i) r bs) (o.turn i q b)) false
 
 -- a layer that has meaning has the length of the rule below
 pub agreed_both : (n k : ℕ) → 1 ≤ agreed n k → (agreed n k ≡ k) × (n ≡ k)
@@ -29,6 +20,11 @@ agreed_both n k h = elim (cases_Bool (n == k)) [
   | inl e ↦ (ap (λ c. cond c n 0) e ∙ eqb-true n k e, eqb-true n k e)
   | inr e ↦ absurd (let z : agreed n k ≡ 0 = ap (λ c. cond c n 0) e in omega arith)
 ]
+
+-- so it has its own length too, if it has one
+both_lengths : (n : Option ℕ) (k : ℕ) → 1 ≤ layer_length n k → (layer_length n k ≡ k) × IfSome n (λ m. m ≡ k)
+both_lengths None k h = (refl, tt)
+both_lengths (Some m) k h = agreed_both m k h
 
 -- what a layer tells is 1 to 65,535
 pub product_some : (s f : ℕ) → 1 ≤ s → 1 ≤ f → 1 ≤ product s f
@@ -107,20 +103,18 @@ module _ (n : ℕ) (o : Own) (t : Trellis) (closed : Closed o) where
             ∙ sym (and_cond (adm bs) (own bs) (prices bs));
       }
 
-      -- the code's product for the start does not wrap
-      pub layer_starts : (s f : ℕ) → s ≡ t.start → f ≡ o.factor → o.start ≡ 0 → s * f % 2 ^ 64 ≡ t.start * o.factor + o.start
-      layer_starts s f e g z =
+      -- the code's start does not wrap
+      layer_starts : (s f q : ℕ) → s ≡ t.start → f ≡ o.factor → q ≡ o.start → (s * f % 2 ^ 64 + q) % 2 ^ 64 ≡ t.start * o.factor + o.start
+      layer_starts s f q e g z =
           let l = within t.start o.start below.begins closed.begins in
-          let p : s * f ≡ t.start * o.factor + o.start = ap₂ ◌*◌ e g ∙ (let q : t.start * o.factor ≡ t.start * o.factor + o.start = omega arith in q) in
-          mod-eq_of_lt (omega (arith, few)) ∙ p
+          let p : t.start * o.factor % 2 ^ 64 ≡ t.start * o.factor = mod-eq_of_lt (omega (arith, few)) in
+          rw (e, g, z, p) (mod-eq_of_lt (omega (arith, few)))
 
       -- what the code makes of a step below and a turn is the layer's step
-      pub layer_answers : {V C : Type 0} (model : Model V) (value : C → V) (i s f up own : ℕ) (b : Bool) (r : Option (Step C)) (q : Option ℕ) (out : Option (Step C))
-          → f ≡ o.factor → up ≡ s / o.factor → own ≡ s % o.factor → out ≡ overlaid f r q → answered value r ≡ due model (t.moves i up b) → (i < n → q ≡ o.turn i own b)
-          → answered value out ≡ due model ((layered n o t).moves i s b)
-      layer_answers {V} {C} model value i s f up own b r q out e j k d a w =
-          ap (answered value) (d ∙ ap (λ x. overlaid x r q) e)
-          ∙ go (t.moves i (s / o.factor) b) refl r (a ∙ ap (λ x. due model (t.moves i x b)) j) (λ h. w h ∙ ap (λ x. o.turn i x b) k)
+      layer_answers : {V C : Type 0} (model : Model V) (value : C → V) (i s : ℕ) (b : Bool) (r : Option (Step C)) (q : Option ℕ)
+          → answered value r ≡ due model (t.moves i (s / o.factor) b) → (i < n → q ≡ o.turn i (s % o.factor) b)
+          → answered value (overlaid o.factor r q) ≡ due model ((layered n o t).moves i s b)
+      layer_answers {V} {C} model value i s b r q a w = go (t.moves i (s / o.factor) b) refl r a
         where
           last : (u : Move) (p : Step C) (k : Option ℕ) → t.moves i (s / o.factor) b ≡ Some u → ◌≡◌ {A = ℕ × V} (p.next, value p.cost) (u.target, worth model u.fees) → o.turn i (s % o.factor) b ≡ k
               → answered value (overlaid o.factor (Some p) k) ≡ due model (then k (λ x. Some (joint o.factor u x)))
@@ -131,11 +125,31 @@ module _ (n : ℕ) (o : Own) (t : Trellis) (closed : Closed o) where
               let y : nat_lt (p.next * o.factor + k) (2 ^ 64) ≡ true = rw (← c) (lt-ltb (u.target * o.factor + k) (2 ^ 64) (omega (arith, few))) in
               rw y (ap (λ x. Some (x.0 * o.factor + k, x.1)) g)
 
-          go : (m : Option Move) → t.moves i (s / o.factor) b ≡ m → (r : Option (Step C)) → answered value r ≡ due model m → (i < n → q ≡ o.turn i (s % o.factor) b)
+          go : (m : Option Move) → t.moves i (s / o.factor) b ≡ m → (r : Option (Step C)) → answered value r ≡ due model m
               → answered value (overlaid o.factor r q) ≡ due model (then m (λ u. then (o.turn i (s % o.factor) b) (λ x. Some (joint o.factor u x))))
-          go None m None a w = refl
-          go None m (Some p) a w = absurd (let z : ◌≡◌ {A = ℕ} 0 1 = cc in omega arith)
-          go (Some u) m None a w = absurd (let z : ◌≡◌ {A = ℕ} 0 1 = cc in omega arith)
-          go (Some u) m (Some p) a w =
+          go None m None a = refl
+          go None m (Some p) a = absurd (let z : ◌≡◌ {A = ℕ} 0 1 = cc in omega arith)
+          go (Some u) m None a = absurd (let z : ◌≡◌ {A = ℕ} 0 1 = cc in omega arith)
+          go (Some u) m (Some p) a =
               let g : ◌≡◌ {A = ℕ × V} (p.next, value p.cost) (u.target, worth model u.fees) = cc in
               rw (w (omega (arith, (below.fair i (s / o.factor) b u m).inside))) (last u p (o.turn i (s % o.factor) b) m g refl)
+
+-- the same of a layer that keeps its law, with a length of its own or none
+module _ (n : Option ℕ) (o : Own) (own : List Bool → Bool) (keeps : Keeps n o own) (t : Trellis) (has : HasMeaning (layered (layer_length n t.places) o t)) where
+  both : (layer_length n t.places ≡ t.places) × IfSome n (λ m. m ≡ t.places)
+  both = both_lengths n t.places has.some
+
+  pub layered_below : HasMeaning t
+  layered_below = below_has (layer_length n t.places) o t keeps.closed both.0 has
+
+  module _ (adm : List Bool → Bool) (prices : List Bool → List Price) (below : Lawful t adm prices) where
+    pub layered_lawful : Lawful (layered (layer_length n t.places) o t) (λ bs. adm bs && own bs) prices
+    layered_lawful = layer_lawful (layer_length n t.places) o t keeps.closed both.0 has adm prices below own (λ bs e. keeps.means bs (IfSome_then n both.1 (λ m h. e ∙ both.0 ∙ sym h)))
+
+    pub layered_starts : (s f q : ℕ) → s ≡ t.start → f ≡ o.factor → q ≡ o.start → (s * f % 2 ^ 64 + q) % 2 ^ 64 ≡ t.start * o.factor + o.start
+    layered_starts = layer_starts (layer_length n t.places) o t keeps.closed both.0 has adm prices below
+
+    pub layered_answers : {V C : Type 0} (model : Model V) (value : C → V) (i s : ℕ) (b : Bool) (r : Option (Step C)) (q : Option ℕ)
+        → answered value r ≡ due model (t.moves i (s / o.factor) b) → (IfSome n (λ m. i < m) → q ≡ o.turn i (s % o.factor) b)
+        → answered value (overlaid o.factor r q) ≡ due model ((layered (layer_length n t.places) o t).moves i s b)
+    layered_answers model value i s b r q a w = layer_answers (layer_length n t.places) o t keeps.closed both.0 has adm prices below model value i s b r q a (λ h. w (IfSome_then n both.1 (λ m e. omega (arith, h, both.0, e))))

@@ -1,4 +1,4 @@
--- Rows keeps the law.
+-- Rows keeps the law of a layer.
 use Rattle.std.specs.Prelude.{◌≡◌, ℕ, zero, suc, ◌+◌, ◌^◌, ◌<◌, ◌≤◌, Bool, true, false, cond, not, ◌&&◌, List, [], ◌∷◌, map, length, get_or, drop, Some, None, Ok, Err, Option, ◌==◌, bit_xor, nat_eq, nat_lt, slice_index, slice_index_or, refl}
 use Rattle.std.specs.Bool.{beq}
 use Rattle.std.proofs.Common.{sym, ap, subst, ◌∙◌, arith}
@@ -15,12 +15,8 @@ use Rattle.std.proofs.lemmas.List.{drop_all, length-map}
 use Rattle.std.proofs.lemmas.List.FromFn.{get_or-map-range_with_len, length-map-range_with_len}
 use Rattle.std.proofs.lemmas.Bool.{and_from, and_right, cond-true, lt-ltb}
 use Rattle.std.proofs.lemmas.Bool.Decides.{nat_tests}
-use Rattle.weights.specs.declared.price.Price.{Price}
-use Rattle.rules.specs.Layer.{agreed, layered}
-use Rattle.rules.specs.Meaning.{HasMeaning, Lawful}
+use Rattle.rules.specs.Layer.{Closed, Keeps, passes}
 use Rattle.rules.specs.Rows.{rows_from, alike, packed, marks_at, columns_of, parities, rows_own}
-use Rattle.rules.specs.Trellis.{Trellis}
-use Rattle.rules.specs.Layers.{Closed, passes, agreed_both, below_has, layer_lawful}
 use Rattle.rules.specs.Packed.{packed_low, packed_none, packed_xor, packed_equal}
 
 pub overlap_none : (bs : List Bool) → overlap bs [] ≡ 0
@@ -38,8 +34,8 @@ odd_step b bs (x ∷ row) zero = odd_more (b && x) (overlap bs row)
 odd_step b bs (x ∷ row) (suc i) = odd_step b bs row i
 
 -- more than six rows are refused
-pub rows_many : (n : ℕ) (hs : List Halves) → 1 ≤ n → n ≤ 128 → 6 < length hs → rows_from n hs ≡ Err (plain 3)
-rows_many n hs h k l = cond-true (is_length n && nat_lt 6 (length hs)) (Err (plain 3)) (rows_of n hs) (and_from (is_length n) (nat_lt 6 (length hs)) (is_length_lem n (omega arith) k) (lt-ltb 6 (length hs) l))
+pub rows_many : (n : ℕ) (hs : List Halves) → is_length n ≡ true → 6 < length hs → rows_from n hs ≡ Err (plain 3)
+rows_many n hs h l = cond-true (is_length n && nat_lt 6 (length hs)) (Err (plain 3)) (rows_of n hs) (and_from (is_length n) (nat_lt 6 (length hs)) h (lt-ltb 6 (length hs) l))
 
 -- a table has as many rows as it is made from
 pub table_length : (n : ℕ) (hs : List Halves) (p : ℕ × List (List Bool)) → Ok p ≡ rows_of n hs → length p.1 ≡ length hs
@@ -65,7 +61,7 @@ module _ (table : List (List Bool)) (word : List Bool) where
   column_low i true = omega (arith, ap (λ n. 2 ^ n) (length-map table (λ row. get_or row i false)), packed_low (map (λ row. get_or row i false) table))
   column_low i false = pow_pos (length table)
 
-  pub rows_closed : Closed (rows_own table word)
+  rows_closed : Closed (rows_own table word)
   rows_closed = record {
     begins = pow_pos (length table);
     turns = λ i q b r h e.
@@ -97,14 +93,5 @@ module _ (table : List (List Bool)) (word : List Bool) where
   rows_alike : (bs : List Bool) → passes (rows_own table word) 0 0 bs ≡ alike table bs word
   rows_alike bs = rows_passes bs 0 0 ∙ ap (λ n. nat_eq n (parities word table)) (xor_zero_l (rest table 0 bs)) ∙ alike_is bs word table
 
-  module _ (n : ℕ) (t : Trellis) (has : HasMeaning (layered (agreed n t.places) (rows_own table word) t)) where
-    pub rows_agree : (agreed n t.places ≡ t.places) × (n ≡ t.places)
-    rows_agree = agreed_both n t.places has.some
-
-    pub rows_below : HasMeaning t
-    rows_below = below_has (agreed n t.places) (rows_own table word) t rows_closed rows_agree.0 has
-
-    pub rows_lawful : (adm : List Bool → Bool) (prices : List Bool → List Price) → Lawful t adm prices
-        → Lawful (layered (agreed n t.places) (rows_own table word) t) (λ bs. adm bs && alike table bs word) prices
-    rows_lawful adm prices below =
-        layer_lawful (agreed n t.places) (rows_own table word) t rows_closed rows_agree.0 has adm prices below (λ bs. alike table bs word) (λ bs e. rows_alike bs)
+  pub rows_keep : Keeps (Some (length word)) (rows_own table word) (λ bs. alike table bs word)
+  rows_keep = record { closed = rows_closed; means = λ bs _. rows_alike bs }

@@ -4,17 +4,17 @@ ghost use Rattle.frames.specs.Tables.{table_rows};
 ghost use Rattle.frames.specs.Words.{places};
 ghost use Rattle.rules.specs.Rows.{columns_of, parities};
 
+use crate::layer::Layered;
 use frames::tables::RowTable;
 use frames::words::Word;
 
 pub mod columns;
 pub mod ops;
 
-// The hard word, the rows, and the rule below. Its own state is the parities so far, one bit for each row.
-// A column has the marks of all rows at one place, and the goal the hard word's parities.
+// The hard word and the rows. The own state is the parities so far, one bit for each row.
+// A column has the marks of all rows at one place, so that a step takes one exclusive or, and the goal the hard word's parities.
 #[derive(Drop)]
-pub struct Rows<R> {
-    below: R,
+pub struct Parities {
     hard: Word,
     table: RowTable,
     columns: Vec<u8>,
@@ -23,3 +23,6 @@ pub struct Rows<R> {
     ghost cut: { columns.items ≡ columns_of (length (places hard.bits)) (table_rows table) },
     ghost aimed: { goal ≡ parities (places hard.bits) (table_rows table) },
 }
+
+// The layer of rows over a rule.
+pub type Rows<R> = Layered<R, Parities>;
