@@ -2,11 +2,11 @@
 use Rattle.std.specs.Prelude.{◌≡◌, ℕ, suc, ◌<◌, Bool, true, false, not, ◌&&◌, List, [], ◌∷◌, Some, None, ◌==◌, refl}
 use Rattle.std.proofs.Common.{arith}
 use Rattle.rules.specs.Layer.{Closed, Keeps, passes}
-use Rattle.rules.specs.Steps.{guarded}
+use Rattle.std.proofs.lemmas.Option.{cond_some}
 use Rattle.own_rule.specs.Apart.{starts_flipped, no_pairs, apart_turn, apart_own}
 
 apart_low : (q : ℕ) (b : Bool) (r : ℕ) → apart_turn q b ≡ Some r → r < 2
-apart_low q true r e = let g = guarded (q == 0) 1 r e in omega (arith, g.1)
+apart_low q true r e = let g = cond_some (q == 0) 1 r e in omega (arith, g.1)
 apart_low q false r e = let g : 0 ≡ r = cc in omega arith
 
 apart_closed : Closed apart_own

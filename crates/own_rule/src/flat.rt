@@ -5,6 +5,7 @@ ghost use Rattle.own_rule.specs.Flat.{flat_trellis};
 ghost use Rattle.weights.specs.declared.price.Price.TheVariants.{Flip};
 ghost use Rattle.own_rule.specs.FlatLaw.{flat_lawful};
 
+use rules::free::flip_cost;
 use rules::rule::Rule;
 use rules::step::Step;
 use std::marker::PhantomData;
@@ -64,7 +65,7 @@ impl<W: Weight> Rule for Flat<W> {
         if place >= self.len || state >= 1 {
             return None;
         }
-        let cost = if flip { W::flip(self.price) } else { W::zero() };
+        let cost = flip_cost(self.price, flip);
         Some(Step { next: 0, cost })
     }
 }

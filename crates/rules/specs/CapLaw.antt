@@ -5,11 +5,11 @@ use Rattle.frames.specs.Places.{marks}
 use Rattle.std.proofs.lemmas.Bool.{cases_Bool, ltb-true, ltb-false, le-leb, lt-leb}
 use Rattle.rules.specs.Cap.{cap_turn, cap_own}
 use Rattle.rules.specs.Layer.{Closed, Keeps, passes}
-use Rattle.rules.specs.Steps.{guarded}
+use Rattle.std.proofs.lemmas.Option.{cond_some}
 
 module _ (most : ℕ) where
   cap_low : (q : ℕ) (b : Bool) (r : ℕ) → q < most + 1 → cap_turn most q b ≡ Some r → r < most + 1
-  cap_low q true r h e = let g = guarded (nat_lt q most) (q + 1) r e in omega (arith, ltb-true q most g.0, g.1)
+  cap_low q true r h e = let g = cond_some (nat_lt q most) (q + 1) r e in omega (arith, ltb-true q most g.0, g.1)
   cap_low q false r h e = let g : q ≡ r = cc in omega arith
 
   cap_closed : Closed (cap_own most)

@@ -9,7 +9,6 @@ pub mod Layer
 pub mod Cap
 pub mod Rows
 pub mod BurstLaw
-pub mod Steps
 pub mod UnbarredLemmas
 pub mod CapLaw
 pub mod Layers

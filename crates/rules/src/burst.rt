@@ -1,10 +1,12 @@
 // Burst: every pattern, each flip costs its cell's price, and the first flip of a run costs a surcharge too.
-ghost use Rattle.std.specs.Prelude.{◌≡◌, ℕ, ◌<◌, true, false, IfOk, slice_index};
+ghost use Rattle.std.specs.Prelude.{◌≡◌, ◌<◌, true, false, IfOk};
 ghost use Rattle.frames.specs.Faults.{Answers};
-ghost use Rattle.rules.specs.Burst.{burst_prices, burst_trellis};
+ghost use Rattle.rules.specs.Burst.{burst_move, burst_prices, burst_trellis};
+ghost use Rattle.weights.specs.Price.{worth};
 ghost use Rattle.rules.specs.Made.{cells_from};
 ghost use Rattle.rules.specs.BurstLaw.{burst_lawful};
 
+use crate::cells::CellWeights;
 use crate::rule::Rule;
 use crate::step::Step;
 use frames::faults::Fault;
@@ -12,47 +14,58 @@ use std::alloc::Global;
 use std::marker::PhantomData;
 use weights::weight::Weight;
 
-// Two states: 1 after a flip, else 0.
+// Two states: 1 after a flip, else 0. They are numbers, since a rule's states are.
 #[derive(Drop)]
 pub struct Burst<W> {
-    weights: Vec<u16>,
+    cells: CellWeights,
     surcharge: u16,
     kind: PhantomData<W>,
-    ghost fit: { ((k : ℕ) → slice_index weights.items k < 65536) },
     ghost low: { surcharge < 65536 },
 }
 
 impl<W: Weight> Burst<W> {
     // The rule over cells of these weights, 1 to 128 of them.
     pub fn new(heap: Global, weights: &[u16], surcharge: u16) -> Result<Burst<W>, Fault>
-        ensures cells { Answers (λ f. f.weights.items) result (cells_from weights.now) }
+        ensures cells { Answers (λ f. f.cells.weights.items) result (cells_from weights.now) }
         ensures surcharge { IfOk result (λ f. f.surcharge ≡ surcharge) }
     {
-        if weights.len() == 0 || weights.len() > 128 {
-            return Err(Fault::Length);
-        }
-        let weights = weights.to_vec(heap)?;
+        let cells = CellWeights::new(heap, weights)?;
         Ok(Burst {
-            weights,
+            cells,
             surcharge,
             kind: PhantomData,
         })
+    }
+
+    // What a step costs from a state, at a cell of this weight.
+    fn cost(&self, weight: u16, state: usize, flip: bool) -> W
+        ensures { W.value result ≡ worth W.model (burst_move self.now.surcharge state weight flip).fees }
+    {
+        if !flip {
+            return W::zero();
+        }
+        let price = W::flip(weight);
+        if state == 1 {
+            price
+        } else {
+            price.plus(W::surcharge(self.surcharge))
+        }
     }
 }
 
 impl<W: Weight> Rule for Burst<W> {
     type Cost = W;
 
-    ghost trellis = { λ r. burst_trellis r.surcharge r.weights.items };
+    ghost trellis = { λ r. burst_trellis r.surcharge r.cells.weights.items };
 
     ghost admits = { λ r bs. true };
 
-    ghost prices = { λ r bs. burst_prices r.surcharge false r.weights.items bs };
+    ghost prices = { λ r bs. burst_prices r.surcharge false r.cells.weights.items bs };
 
-    ghost meaning = { λ r h. burst_lawful r.surcharge r.weights.items r.fit r.low };
+    ghost meaning = { λ r h. burst_lawful r.surcharge r.cells.weights.items r.cells.fit r.low };
 
     fn length(&self) -> usize {
-        self.weights.len()
+        self.cells.len()
     }
 
     fn states(&self) -> usize {
@@ -68,21 +81,13 @@ impl<W: Weight> Rule for Burst<W> {
     }
 
     fn step(&self, place: usize, state: usize, flip: bool) -> Option<Step<W>> {
-        if place >= self.weights.len() || state >= 2 {
+        if state >= 2 {
             return None;
         }
-        if !flip {
-            return Some(Step {
-                next: 0,
-                cost: W::zero(),
-            });
-        }
-        let price = W::flip(self.weights[place]);
-        let cost = if state == 1 {
-            price
-        } else {
-            price.plus(W::surcharge(self.surcharge))
-        };
-        Some(Step { next: 1, cost })
+        let cost = self.cost(self.cells.get(place)?, state, flip);
+        Some(Step {
+            next: usize::from(flip),
+            cost,
+        })
     }
 }

@@ -3,6 +3,7 @@
 
 pub mod burst;
 pub mod cap;
+pub mod cells;
 pub mod free;
 pub mod layer;
 pub mod rows;

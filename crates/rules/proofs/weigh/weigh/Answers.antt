@@ -2,7 +2,7 @@ use Rattle.std.proofs.Common.{false, unwrap_or, sym, ap, ◌∙◌, arith}
 use Rattle.frames.specs.Words.{places}
 use Rattle.std.specs.Option.{option_map}
 use Rattle.weights.specs.Price.{worth}
-use Rattle.rules.specs.Steps.{nth_or}
+use Rattle.std.proofs.lemmas.Option.{unwrap_or-slice_get}
 use Rattle.rules.proofs.Walks.{walked_barred, walked_more, walked_ends, walked_stays, walk_weighs}
 use Rattle.rules.proofs.weigh.weigh.Goals as goal
 
@@ -12,7 +12,7 @@ returns-in_err-step g c h =
     let t = g.R.Rule.trellis r in
     let m = g.R.Cost.Weight.model in
     let bs = places c.args.pattern.now.bits in
-    let flip = c.unwrap_or-flip.ensures ∙ ap (λ o. unwrap_or o false) c.bit.ensures ∙ nth_or bs c.loop-place.place false in
+    let flip = c.unwrap_or-flip.ensures ∙ ap (λ o. unwrap_or o false) c.bit.ensures ∙ unwrap_or-slice_get bs c.loop-place.place false in
     let barred = walked_barred m t bs c.loop-place.place c.loop-place.state (g.R.Cost.Weight.value c.loop-place.sum) c.unwrap_or-flip.result (omega arith) flip (c.loop-place.invariant h) (c.in_err-step.ensures h) in
     ap (option_map g.R.Cost.Weight.value) c.from_residual.ensures ∙ ap (option_map (worth m)) (sym barred)
     ∙ walk_weighs m t bs (g.R.Rule.admits r) (g.R.Rule.prices r) (g.met.R.Rule.meaning r h) (omega arith)
@@ -24,7 +24,7 @@ loop-place-preserved g c h =
     let m = g.R.Cost.Weight.model in
     let bs = places c.args.pattern.now.bits in
     let value = g.R.Cost.Weight.value in
-    let flip = c.unwrap_or-flip.ensures ∙ ap (λ o. unwrap_or o false) c.bit.ensures ∙ nth_or bs c.loop-place.place false in
+    let flip = c.unwrap_or-flip.ensures ∙ ap (λ o. unwrap_or o false) c.bit.ensures ∙ unwrap_or-slice_get bs c.loop-place.place false in
     walked_more m t bs c.loop-place.place c.loop-place.state (value c.loop-place.sum) c.unwrap_or-flip.result (omega arith) flip (c.loop-place.invariant h)
     g.met.R.Cost.Weight.laws h (g.R.Rule.admits r) (g.R.Rule.prices r) (g.met.R.Rule.meaning r h) c.in_ok-step.step.next (value c.in_ok-step.step.cost) (value c.plus-sum.result)
     (c.in_ok-step.ensures h) c.plus-sum.ensures
