@@ -8,7 +8,7 @@ use Rattle.std.proofs.lemmas.List.{drop_all, get_or-map, length-map}
 use Rattle.std.proofs.lemmas.Bool.Decides.{nat_tests}
 use Rattle.rules.specs.Rows.{packed}
 
-digit_low : (b : Bool) → cond b 1 0 < 2
+pub digit_low : (b : Bool) → cond b 1 0 < 2
 digit_low true = omega arith
 digit_low false = omega arith
 
@@ -16,9 +16,22 @@ pub packed_low : (bs : List Bool) → packed bs < 2 ^ length bs
 packed_low [] = omega arith
 packed_low (b ∷ bs) = rw (pow-suc 2 (length bs)) (omega (arith, packed_low bs, digit_low b))
 
-byte_is : (b : Bool) → bool_byte b ≡ cond b 1 0
+pub byte_is : (b : Bool) → bool_byte b ≡ cond b 1 0
 byte_is true = refl
 byte_is false = refl
+
+-- of at most six digits, what lies past the first is below 32
+pub packed_few : (n i v : ℕ) → n ≤ 6 → 0 < i → v < 2 ^ (n - i) → v < 32
+packed_few n i v h k l =
+    let a : n - i ≤ 5 = omega arith in
+    let p : 2 ^ (n - i) ≤ 2 ^ 5 = pow_mono a in
+    omega (arith, p)
+
+-- with one digit more a number stays below the next power
+pub packed_room : (n i v w : ℕ) (b : Bool) → 0 < i → i ≤ n → v < 2 ^ (n - i) → w ≡ bool_byte b → v * 2 + w < 2 ^ (n - (i - 1))
+packed_room n i v w b h l k e =
+    let s : n - (i - 1) ≡ suc (n - i) = omega arith in
+    rw (s, pow-suc 2 (n - i)) (omega (arith, k, e, byte_is b, digit_low b))
 
 module _ {X : Type 0} (f : X → Bool) (xs : List X) where
   pub packed_start : (i : ℕ) → length xs ≤ i → 0 ≡ packed (drop i (map f xs))
@@ -32,13 +45,6 @@ module _ {X : Type 0} (f : X → Bool) (xs : List X) where
         let s : suc (i - 1) ≡ i = omega arith in
         let c : drop (i - 1) (map f xs) ≡ b ∷ drop i (map f xs) = drop-cons (map f xs) (i - 1) false l ∙ ap₂ (λ x y. x ∷ drop y (map f xs)) (get_or-map f xs (i - 1) d false (omega arith) ∙ sym k) s in
         ap₂ (λ x y. x * 2 + y) e (g ∙ byte_is b) ∙ sym (ap packed c)
-
-    -- of at most six there is room for one more in a byte
-    pub packed_room : length xs ≤ 6 → v * 2 + w < 64
-    packed_room h =
-        let l : length (drop i (map f xs)) ≤ 5 = omega (arith, length-drop i (map f xs), length-map xs f) in
-        let p : 2 ^ length (drop i (map f xs)) ≤ 2 ^ 5 = pow_mono l in
-        omega (arith, packed_low (drop i (map f xs)), byte_is b, digit_low b)
 
   pub packed_none : ((x : X) → f x ≡ false) → packed (map f xs) ≡ 0
   packed_none h = go xs

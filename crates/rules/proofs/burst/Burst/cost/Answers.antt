@@ -15,4 +15,4 @@ returns-else-state-eq1 g c =
     let surcharge = Surcharge c.args.self.now.surcharge in
     let after : nat_eq c.args.state 1 ≡ false = ne_eqb c.args.state 1 c.if-state-eq1.false in
     rw (c.if-not-flip.false, after) (worth_sum m laws (flip ∷ []) (surcharge ∷ []) (c.ranges.weight.fits, tt) (c.args.self.now.low, tt) (omega arith)
-        (c.flip-price.ensures ∙ sym (worth_one m laws flip (omega arith))) (c.surcharge.ensures ∙ sym (worth_one m laws surcharge c.args.self.now.low)) c.plus.ensures)
+    (c.flip-price.ensures ∙ sym (worth_one m laws flip (omega arith))) (c.surcharge.ensures ∙ sym (worth_one m laws surcharge c.args.self.now.low)) c.plus.ensures)

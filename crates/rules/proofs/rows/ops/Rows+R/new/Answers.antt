@@ -1,9 +1,0 @@
-use Rattle.std.proofs.Common.{length, sym, ap}
-use Rattle.frames.specs.Faults.{refused}
-use Rattle.frames.specs.Words.{places}
-use Rattle.rules.proofs.Lengths.{places_length}
-use Rattle.rules.specs.RowsLaw.{rows_many}
-use Rattle.rules.proofs.rows.ops.Rows+R.new.Goals as goal
-
-pub returns-then-rows-gt-MOST-clause-table : goal.returns-then-rows-gt-MOST-clause-table
-returns-then-rows-gt-MOST-clause-table g c = ap refused (sym (rows_many (length (places c.args.hard.bits)) c.args.rows.now (places_length c.args.hard.bits) c.if-rows-gt-MOST.true))
