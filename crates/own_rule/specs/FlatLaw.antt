@@ -1,5 +1,5 @@
 -- One price for every flip keeps the law.
-use Rattle.std.specs.Prelude.{◌≡◌, ℕ, ◌+◌, ◌<◌, Bool, true, false, List, ◌∷◌, ◌++◌, replicate, refl}
+use Rattle.std.specs.Prelude.{◌≡◌, ℕ, ◌<◌, Bool, true, false, List, ◌∷◌, ◌++◌, replicate, refl}
 use Rattle.std.proofs.Common.{sym, ap, zero-add, one-add, arith}
 use Rattle.frames.specs.Places.{marks}
 use Rattle.weights.specs.declared.price.Price.TheVariants.{Flip}

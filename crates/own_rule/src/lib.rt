@@ -23,10 +23,7 @@ mod tests {
             second: 0,
         };
         let bits = Bits::new(3, halves)?;
-        match weigh(rule, &Pattern { bits }) {
-            Some(weight) => Ok(Some(weight.number())),
-            None => Ok(None),
-        }
+        Ok(weigh(rule, &Pattern { bits }).map(|weight| weight.number()))
     }
 
     #[test]

@@ -1,5 +1,5 @@
 -- Cap keeps the law of a layer.
-use Rattle.std.specs.Prelude.{◌≡◌, ℕ, suc, ◌+◌, ◌<◌, ◌≤◌, Bool, true, false, ◌&&◌, leb, List, [], ◌∷◌, Some, None, nat_le, nat_lt, refl}
+use Rattle.std.specs.Prelude.{◌≡◌, ℕ, suc, ◌+◌, ◌<◌, ◌≤◌, Bool, true, false, leb, List, [], ◌∷◌, Some, None, nat_le, nat_lt}
 use Rattle.std.proofs.Common.{inl, inr, sym, ap, ◌∙◌, zero-add, arith}
 use Rattle.frames.specs.Places.{marks}
 use Rattle.std.proofs.lemmas.Bool.{cases_Bool, ltb-true, ltb-false, le-leb, lt-leb}

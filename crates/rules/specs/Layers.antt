@@ -1,6 +1,6 @@
 -- A layer keeps the law, if its own part stays within its states and the rule below keeps it.
 use Rattle.std.specs.Prelude.{◌≡◌, ℕ, suc, ◌+◌, ◌*◌, ◌/◌, ◌%◌, ◌^◌, ◌<◌, ◌≤◌, Bool, true, false, cond, ◌&&◌, List, [], ◌∷◌, ◌++◌, length, IfSome, Some, None, Option, ◌==◌, nat_lt, refl}
-use Rattle.std.proofs.Common.{inl, inr, sym, ap, ap₂, subst, ◌∙◌, mod-eq_of_lt, mul_comm, mul-one, arith}
+use Rattle.std.proofs.Common.{inl, inr, sym, ap, ap₂, subst, ◌∙◌, mul_comm, mul-one, arith}
 use Rattle.std.proofs.lemmas.Nat.{mul-add-lt, div-mul-add, mod-mul-add, mod_below, div-add-mod', mul-le}
 use Rattle.std.proofs.lemmas.Bool.{cases_Bool, eqb-true, lt-ltb}
 use Rattle.std.proofs.lemmas.Option.{IfSome_then}
@@ -9,7 +9,7 @@ use Rattle.weights.specs.Model.{Model}
 use Rattle.weights.specs.Price.{worth}
 use Rattle.weights.specs.declared.price.Price.{Price}
 use Rattle.rules.specs.Answers.{answered, due}
-use Rattle.rules.specs.Layer.{Own, Closed, Keeps, passes, product, agreed, layer_length, joint, layered, overlaid}
+use Rattle.rules.specs.Layer.{Own, Closed, Keeps, passes, agreed, layer_length, joint, layered, overlaid}
 use Rattle.rules.specs.Meaning.{HasMeaning, Fair, Lawful}
 use Rattle.rules.specs.Trellis.{Move, Trellis, then, walk}
 use Rattle.rules.specs.declared.step.Step.{Step}
@@ -25,10 +25,6 @@ agreed_both n k h = elim (cases_Bool (n == k)) [
 both_lengths : (n : Option ℕ) (k : ℕ) → 1 ≤ layer_length n k → (layer_length n k ≡ k) × IfSome n (λ m. m ≡ k)
 both_lengths None k h = (refl, tt)
 both_lengths (Some m) k h = agreed_both m k h
-
--- what a layer tells is 1 to 65,535
-pub product_some : (s f : ℕ) → 1 ≤ s → 1 ≤ f → 1 ≤ product s f
-product_some s f h k = omega (arith, mul-le 1 1 s f h k)
 
 and_cond : {X : Type 0} (a b : Bool) (x : X) → cond (a && b) (Some x) None ≡ cond b (cond a (Some x) None) None
 and_cond true true x = refl
@@ -103,13 +99,6 @@ module _ (n : ℕ) (o : Own) (t : Trellis) (closed : Closed o) where
             ∙ sym (and_cond (adm bs) (own bs) (prices bs));
       }
 
-      -- the code's start does not wrap
-      layer_starts : (s f q : ℕ) → s ≡ t.start → f ≡ o.factor → q ≡ o.start → (s * f % 2 ^ 64 + q) % 2 ^ 64 ≡ t.start * o.factor + o.start
-      layer_starts s f q e g z =
-          let l = within t.start o.start below.begins closed.begins in
-          let p : t.start * o.factor % 2 ^ 64 ≡ t.start * o.factor = mod-eq_of_lt (omega (arith, few)) in
-          rw (e, g, z, p) (mod-eq_of_lt (omega (arith, few)))
-
       -- what the code makes of a step below and a turn is the layer's step
       layer_answers : {V C : Type 0} (model : Model V) (value : C → V) (i s : ℕ) (b : Bool) (r : Option (Step C)) (q : Option ℕ)
           → answered value r ≡ due model (t.moves i (s / o.factor) b) → (i < n → q ≡ o.turn i (s % o.factor) b)
@@ -145,9 +134,6 @@ module _ (n : Option ℕ) (o : Own) (own : List Bool → Bool) (keeps : Keeps n 
   module _ (adm : List Bool → Bool) (prices : List Bool → List Price) (below : Lawful t adm prices) where
     pub layered_lawful : Lawful (layered (layer_length n t.places) o t) (λ bs. adm bs && own bs) prices
     layered_lawful = layer_lawful (layer_length n t.places) o t keeps.closed both.0 has adm prices below own (λ bs e. keeps.means bs (IfSome_then n both.1 (λ m h. e ∙ both.0 ∙ sym h)))
-
-    pub layered_starts : (s f q : ℕ) → s ≡ t.start → f ≡ o.factor → q ≡ o.start → (s * f % 2 ^ 64 + q) % 2 ^ 64 ≡ t.start * o.factor + o.start
-    layered_starts = layer_starts (layer_length n t.places) o t keeps.closed both.0 has adm prices below
 
     pub layered_answers : {V C : Type 0} (model : Model V) (value : C → V) (i s : ℕ) (b : Bool) (r : Option (Step C)) (q : Option ℕ)
         → answered value r ≡ due model (t.moves i (s / o.factor) b) → (IfSome n (λ m. i < m) → q ≡ o.turn i (s % o.factor) b)

@@ -1,10 +1,10 @@
 -- Bits packed into numbers.
 use Rattle.std.specs.Prelude.{◌≡◌, ℕ, suc, ◌+◌, ◌-◌, ◌*◌, ◌^◌, ◌<◌, ◌≤◌, Bool, true, false, cond, not, ◌&&◌, List, [], ◌∷◌, map, length, drop, ◌==◌, bit_xor, slice_index_or, refl}
 use Rattle.std.specs.Bool.{beq}
-use Rattle.std.proofs.Common.{sym, ap, ap₂, ◌∙◌, pow-suc, arith, length-drop, pow_mono, drop-cons}
+use Rattle.std.proofs.Common.{sym, ap, ap₂, ◌∙◌, pow-suc, arith, pow_mono, drop-cons}
 use Rattle.std.proofs.lemmas.Nat.{xor_block}
 use mir.Val.{bool_byte}
-use Rattle.std.proofs.lemmas.List.{drop_all, get_or-map, length-map}
+use Rattle.std.proofs.lemmas.List.{get_or-map, length-map}
 use Rattle.std.proofs.lemmas.Bool.Decides.{nat_tests}
 use Rattle.rules.specs.Rows.{packed}
 
@@ -34,9 +34,6 @@ packed_room n i v w b h l k e =
     rw (s, pow-suc 2 (n - i)) (omega (arith, k, e, byte_is b, digit_low b))
 
 module _ {X : Type 0} (f : X → Bool) (xs : List X) where
-  pub packed_start : (i : ℕ) → length xs ≤ i → 0 ≡ packed (drop i (map f xs))
-  packed_start i h = sym (ap packed (drop_all i (map f xs) (omega (arith, length-map xs f))))
-
   module _ (i v w : ℕ) (b : Bool) (some : 0 < i) (e : v ≡ packed (drop i (map f xs))) (g : w ≡ bool_byte b) where
     -- one more, from the end
     pub packed_more : (d : X) → i ≤ length xs → b ≡ f (slice_index_or xs (i - 1) d) → v * 2 + w ≡ packed (drop (i - 1) (map f xs))

@@ -1,14 +1,12 @@
 -- Rows keeps the law of a layer.
-use Rattle.std.specs.Prelude.{◌≡◌, ℕ, zero, suc, ◌+◌, ◌^◌, ◌<◌, ◌≤◌, Bool, true, false, cond, not, ◌&&◌, List, [], ◌∷◌, map, length, get_or, drop, Some, None, Ok, Err, Option, ◌==◌, bit_xor, nat_eq, nat_lt, slice_index, slice_index_or, refl}
+use Rattle.std.specs.Prelude.{◌≡◌, ℕ, zero, suc, ◌+◌, ◌^◌, ◌<◌, Bool, true, false, cond, not, ◌&&◌, List, [], ◌∷◌, map, length, get_or, drop, Some, Err, ◌==◌, bit_xor, nat_eq, nat_lt, slice_index, slice_index_or, refl}
 use Rattle.std.specs.Bool.{beq}
 use Rattle.std.proofs.Common.{sym, ap, subst, ◌∙◌, arith}
 use Rattle.std.specs.Int.Bits.{xor_assoc, xor_zero_l, xor_zero_r}
 use Rattle.frames.specs.Halves.{is_odd, is_length}
-use Rattle.frames.proofs.TableRows.{is_length_lem}
 use Rattle.frames.specs.Faults.{plain}
 use Rattle.frames.specs.Places.{overlap}
-use Rattle.frames.specs.Rows.{row_of, rows_of, rows_unless, holds_row}
-use Rattle.frames.specs.Firsts.{first_failing}
+use Rattle.frames.specs.Rows.{rows_of}
 use Rattle.frames.specs.declared.halves.Halves.{Halves}
 use Rattle.std.proofs.lemmas.Nat.{pow_pos, xor_lt}
 use Rattle.std.proofs.lemmas.List.{drop_all, length-map}
@@ -36,15 +34,6 @@ odd_step b bs (x ∷ row) (suc i) = odd_step b bs row i
 -- more than six rows are refused
 pub rows_many : (n : ℕ) (hs : List Halves) → is_length n ≡ true → 6 < length hs → rows_from n hs ≡ Err (plain 3)
 rows_many n hs h l = cond-true (is_length n && nat_lt 6 (length hs)) (Err (plain 3)) (rows_of n hs) (and_from (is_length n) (nat_lt 6 (length hs)) h (lt-ltb 6 (length hs) l))
-
--- a table has as many rows as it is made from
-pub table_length : (n : ℕ) (hs : List Halves) (p : ℕ × List (List Bool)) → Ok p ≡ rows_of n hs → length p.1 ≡ length hs
-table_length n hs p e = go (is_length n) (first_failing (holds_row n) hs) e
-  where
-    go : (b : Bool) (o : Option ℕ) → Ok p ≡ cond b (rows_unless o n hs) (Err (plain 1)) → length p.1 ≡ length hs
-    go true None e = let q : p ≡ (n, map (row_of n) hs) = cc in ap (λ x. length x.1) q ∙ length-map hs (row_of n)
-    go true (Some k) e = absurd (let z : ◌≡◌ {A = ℕ} 0 1 = cc in omega arith)
-    go false o e = absurd (let z : ◌≡◌ {A = ℕ} 0 1 = cc in omega arith)
 
 pub columns_length : (n : ℕ) (table : List (List Bool)) (cs : List ℕ) → cs ≡ columns_of n table → length cs ≡ n
 columns_length n table cs e = ap length e ∙ length-map-range_with_len (λ i. marks_at i table) 0 n

@@ -79,10 +79,7 @@ pub fn overlay<C: Copy>(
 {
     let step = below?;
     let next = step.next.checked_mul(factor)?.checked_add(own?)?;
-    Some(Step {
-        next,
-        cost: step.cost,
-    })
+    Some(Step { next, ..step })
 }
 
 impl<R: Rule, L: Layer> Rule for Layered<R, L> {

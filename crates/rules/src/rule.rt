@@ -49,11 +49,9 @@ pub trait Rule {
 }
 
 // Every rule with further meaning keeps the law.
-pub fn law_holds<R: Rule>(rule: &R) -> u8
+pub fn law_holds<R: Rule>(rule: &R)
     ensures { HasMeaning (R.Rule.trellis rule.now) → Lawful (R.Rule.trellis rule.now) (R.Rule.admits rule.now) (R.Rule.prices rule.now) }
-{
-    0
-}
+{}
 
 // Whether a rule has further meaning.
 pub fn has_meaning<R: Rule>(rule: &R) -> bool

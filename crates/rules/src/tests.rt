@@ -28,16 +28,13 @@ fn level<R: Rule<Cost = Level>>(rule: &R, len: usize, first: u64) -> Result<Opti
     let pattern = Pattern {
         bits: bits(len, first)?,
     };
-    match weigh(rule, &pattern) {
-        Some(weight) => Ok(Some(weight.number())),
-        None => Ok(None),
-    }
+    Ok(weigh(rule, &pattern).map(|weight| weight.number()))
 }
 
 #[test]
 fn runs_are_charged_once(rt: HostRuntime) -> Result<(), Fail> {
     let rule: Burst<Level> = Burst::new(rt.alloc(), &[256, 256, 256], 100)?;
-    assert_eq!(rt; law_holds(&rule), 0);
+    law_holds(&rule);
     assert_eq!(rt; level(&rule, 3, 0b110 << 61)?, Some(612));
     assert_eq!(rt; level(&rule, 3, 0b101 << 61)?, Some(712));
     assert_eq!(rt; level(&rule, 3, 0)?, Some(0));
@@ -121,10 +118,11 @@ fn lengths_have_to_agree(rt: HostRuntime) -> Result<(), Fail> {
 fn refused(heap: Global, rows: &[Halves]) -> Result<Option<u8>, Fault> {
     let free: Free<Level> = Free::new(heap, &[1, 2])?;
     let hard = Word { bits: bits(2, 0)? };
-    match Rows::new(heap, free, hard, rows) {
-        Ok(_) => Ok(None),
-        Err(fault) => Ok(fault.number()),
-    }
+    Ok(
+        Rows::new(heap, free, hard, rows)
+            .err()
+            .and_then(Fault::number),
+    )
 }
 
 #[test]

@@ -24,5 +24,5 @@ pub fn weigh<R: Rule>(rule: &R, pattern: &Pattern) -> Option<R::Cost>
         state = step.next;
         sum = sum.plus(step.cost);
     }
-    if rule.is_end(state) { Some(sum) } else { None }
+    rule.is_end(state).then_some(sum)
 }
