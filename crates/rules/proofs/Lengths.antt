@@ -9,5 +9,5 @@ use Rattle.frames.specs.declared.bits.Bits.{Bits}
 
 pub places_length : (b : Bits) → is_length (length (places b)) ≡ true
 places_length b =
-    let l = length_spelled b.len b.first b.second in
-    and_from (nat_le 1 (length (places b))) (nat_le (length (places b)) 128) (le-leb 1 (length (places b)) (omega (arith, l, b.some))) (le-leb (length (places b)) 128 (omega (arith, l, b.most)))
+    let l = length_spelled b.len.places b.halves.first b.halves.second in
+    and_from (nat_le 1 (length (places b))) (nat_le (length (places b)) 128) (le-leb 1 (length (places b)) (omega (arith, l, b.len.some))) (le-leb (length (places b)) 128 (omega (arith, l, b.len.most)))

@@ -1,6 +1,5 @@
 -- A walk through a rule's steps, place by place.
-use Rattle.std.proofs.Common.{◌≡◌, ℕ, suc, ◌+◌, ◌*◌, ◌<◌, ◌≤◌, Bool, true, false, cond, ◌&&◌, List, [], ◌∷◌, ◌++◌, length, get_or, drop, Some, None, Option, sym, refl, ap, ◌∙◌, append_assoc, append-nil, add-one, arith, length-append, drop-cons}
-use Rattle.std.proofs.lemmas.List.{drop_all}
+use Rattle.std.proofs.Common.{◌≡◌, ℕ, suc, ◌+◌, ◌*◌, ◌≤◌, Bool, true, false, cond, ◌&&◌, List, [], ◌∷◌, ◌++◌, length, Some, None, Option, sym, refl, ap, ◌∙◌, append_assoc, append-nil, add-one, arith, length-append}
 use Rattle.std.proofs.lemmas.Bool.{eq-eqb}
 use Rattle.std.proofs.lemmas.Option.{none-some}
 use Rattle.std.specs.Bool.{then_some}
@@ -15,13 +14,13 @@ use Rattle.rules.specs.Answers.{due, weighed}
 use Rattle.rules.specs.Meaning.{HasMeaning, Lawful}
 use Rattle.rules.specs.Trellis.{Move, Trellis, then, walk, walked}
 
--- the first i places of a pattern lead to the state s for prices worth v
-pub record Walked {V : Type 0} (model : Model V) (t : Trellis) (bs : List Bool) (i s : ℕ) (v : V) : Type 0 where
+-- the first i places of a pattern lead to the state s for prices worth v, and some are left
+pub record Walked {V : Type 0} (model : Model V) (t : Trellis) (bs : List Bool) (i s : ℕ) (v : V) (left : List Bool) : Type 0 where
   pub paid : List Price
   pub worthy : v ≡ worth model paid
   pub range : InRange paid
   pub short : length paid ≤ 2 * i
-  pub rest : walked t bs ≡ option_map (λ ps. paid ++ ps) (walk t i s (drop i bs))
+  pub rest : walked t bs ≡ option_map (λ ps. paid ++ ps) (walk t i s left)
 
 mapped_nil : (o : Option (List Price)) → o ≡ option_map (λ ps. [] ++ ps) o
 mapped_nil None = refl
@@ -41,13 +40,10 @@ module _ {V : Type 0} (model : Model V) (t : Trellis) (bs : List Bool) where
     walk_weighs : length bs ≡ t.places → option_map (worth model) (walked t bs) ≡ weighed model t.places adm prices bs
     walk_weighs e = ap (option_map (worth model)) (law.means bs e) ∙ worth_cond model (adm bs) (prices bs) ∙ ap (λ c. cond (c && adm bs) (Some (worth model (prices bs))) None) (sym (eq-eqb (length bs) t.places e))
 
-    module _ (i s : ℕ) (v : V) (b : Bool) (h : i < length bs) (e : b ≡ get_or bs i false) (w : Walked model t bs i s v) where
+    module _ (i s : ℕ) (v : V) (b : Bool) (left : List Bool) (w : Walked model t bs i s v (b ∷ left)) where
       -- what is left, by the move at this place
-      at_move : (o : Option Move) → t.moves i s b ≡ o → walked t bs ≡ option_map (λ ps. w.paid ++ ps) (then o (λ m. option_map (λ ps. m.fees ++ ps) (walk t (suc i) m.target (drop (suc i) bs))))
-      at_move o f =
-          w.rest
-          ∙ ap (λ l. option_map (λ ps. w.paid ++ ps) (walk t i s l)) (drop-cons bs i false h ∙ ap (λ c. c ∷ drop (suc i) bs) (sym e))
-          ∙ ap (λ x. option_map (λ ps. w.paid ++ ps) (then x (λ m. option_map (λ ps. m.fees ++ ps) (walk t (suc i) m.target (drop (suc i) bs))))) f
+      at_move : (o : Option Move) → t.moves i s b ≡ o → walked t bs ≡ option_map (λ ps. w.paid ++ ps) (then o (λ m. option_map (λ ps. m.fees ++ ps) (walk t (suc i) m.target left)))
+      at_move o f = w.rest ∙ ap (λ x. option_map (λ ps. w.paid ++ ps) (then x (λ m. option_map (λ ps. m.fees ++ ps) (walk t (suc i) m.target left)))) f
 
       -- a barred step: it weighs nothing
       pub walked_barred : length bs ≡ t.places → None ≡ due model (t.moves i s b) → None ≡ weighed model t.places adm prices bs
@@ -57,10 +53,10 @@ module _ {V : Type 0} (model : Model V) (t : Trellis) (bs : List Bool) where
           go None f a = ap (option_map (worth model)) (sym (at_move None f)) ∙ walk_weighs k
           go (Some m) f a = absurd (none-some (m.target, worth model m.fees) a)
 
-      pub walked_more : Laws model → HasMeaning t → (next : ℕ) (u sum : V) → Some (next, u) ≡ due model (t.moves i s b) → (Addable model v u → sum ≡ model.plus v u) → Walked model t bs (i + 1) next sum
+      pub walked_more : Laws model → HasMeaning t → (next : ℕ) (u sum : V) → Some (next, u) ≡ due model (t.moves i s b) → (Addable model v u → sum ≡ model.plus v u) → Walked model t bs (i + 1) next sum left
       walked_more laws has next u sum a adds = go (t.moves i s b) refl a
         where
-          go : (o : Option Move) → t.moves i s b ≡ o → Some (next, u) ≡ due model o → Walked model t bs (i + 1) next sum
+          go : (o : Option Move) → t.moves i s b ≡ o → Some (next, u) ≡ due model o → Walked model t bs (i + 1) next sum left
           go None f a = absurd (none-some (next, u) (sym a))
           go (Some m) f a =
               let p : ◌≡◌ {A = ℕ × V} (next, u) (m.target, worth model m.fees) = cc in
@@ -71,18 +67,15 @@ module _ {V : Type 0} (model : Model V) (t : Trellis) (bs : List Bool) where
                 worthy = worth_sum model laws w.paid m.fees w.range fair.range l w.worthy (ap (λ x. x.1) p) adds;
                 range = range-++ w.paid m.fees w.range fair.range;
                 short = rw length-append (omega (arith, w.short, fair.cheap));
-                rest = rw (add-one i) (at_move (Some m) f ∙ mapped_twice w.paid m.fees (walk t (suc i) m.target (drop (suc i) bs))
-                    ∙ ap (λ x. option_map (λ ps. (w.paid ++ m.fees) ++ ps) (walk t (suc i) x (drop (suc i) bs))) (sym (ap (λ x. x.0) p)));
+                rest = rw (add-one i) (at_move (Some m) f ∙ mapped_twice w.paid m.fees (walk t (suc i) m.target left)
+                    ∙ ap (λ x. option_map (λ ps. (w.paid ++ m.fees) ++ ps) (walk t (suc i) x left)) (sym (ap (λ x. x.0) p)));
               }
 
     -- past the last place: the sum, if the state is an end
-    pub walked_end : {C : Type 0} (value : C → V) (i s : ℕ) (sum : C) (b : Bool) → length bs ≤ i → Walked model t bs i s (value sum) → b ≡ t.ends s → length bs ≡ t.places
+    pub walked_end : {C : Type 0} (value : C → V) (i s : ℕ) (sum : C) (b : Bool) → Walked model t bs i s (value sum) [] → b ≡ t.ends s → length bs ≡ t.places
         → option_map value (then_some b sum) ≡ weighed model t.places adm prices bs
-    walked_end value i s sum b h w e k = go b ∙ ap (option_map (worth model)) (sym whole) ∙ walk_weighs k
+    walked_end value i s sum b w e k = go b ∙ ap (option_map (worth model)) (sym (w.rest ∙ ap (λ c. option_map (λ ps. w.paid ++ ps) (cond c (Some []) None)) (sym e))) ∙ walk_weighs k
       where
-        whole : walked t bs ≡ option_map (λ ps. w.paid ++ ps) (cond b (Some []) None)
-        whole = w.rest ∙ ap (λ l. option_map (λ ps. w.paid ++ ps) (walk t i s l)) (drop_all i bs h) ∙ ap (λ c. option_map (λ ps. w.paid ++ ps) (cond c (Some []) None)) (sym e)
-
         go : (b : Bool) → option_map value (then_some b sum) ≡ option_map (worth model) (option_map (λ ps. w.paid ++ ps) (cond b (Some []) None))
         go true = ap Some (w.worthy ∙ ap (worth model) (sym (append-nil w.paid)))
         go false = refl

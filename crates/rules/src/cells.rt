@@ -5,6 +5,7 @@ ghost use Rattle.frames.specs.Faults.{Answers};
 ghost use Rattle.rules.specs.Made.{cells_from};
 
 use frames::faults::Fault;
+use frames::length::Length;
 use std::alloc::Global;
 
 // The weights of 1 to 128 cells, which are numbers below 65,536.
@@ -19,9 +20,7 @@ impl CellWeights {
     pub fn new(heap: Global, weights: &[u16]) -> Result<CellWeights, Fault>
         ensures { Answers (λ c. c.weights.items) result (cells_from weights.now) }
     {
-        if weights.len() == 0 || weights.len() > 128 {
-            return Err(Fault::Length);
-        }
+        Length::try_from(weights.len())?;
         let weights = weights.to_vec(heap)?;
         Ok(CellWeights { weights })
     }

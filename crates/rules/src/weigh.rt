@@ -18,8 +18,7 @@ pub fn weigh<R: Rule>(rule: &R, pattern: &Pattern) -> Option<R::Cost>
     }
     let mut state = rule.start();
     let mut sum = R::Cost::zero();
-    for place in 0..pattern.bits.len() {
-        let flip = pattern.bits.bit(place).unwrap_or(false);
+    for (place, flip) in pattern.bits.iter().enumerate() {
         let step = rule.step(place, state, flip)?;
         state = step.next;
         sum = sum.plus(step.cost);

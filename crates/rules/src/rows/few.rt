@@ -47,12 +47,8 @@ impl FewRows {
         ensures { (says : List Bool → Bool) → ((row : _) (b : _) → F.post test row b → b ≡ says (places row.bits)) → result ≡ packed (map says (table_rows self.now.table)) }
     {
         let mut bits = 0;
-        for index in (0..self.table.len()).rev() {
-            let bit = match self.table.row(index) {
-                Some(row) => test(row),
-                None => false,
-            };
-            bits = bits * 2 + u8::from(bit);
+        for (index, row) in self.table.iter().enumerate() {
+            bits += u8::from(test(row)) << index;
         }
         bits
     }

@@ -1,27 +1,24 @@
-use Rattle.std.proofs.Common.{◌≡◌, ◌-◌, [], length, get_or, sym, ap, ◌∙◌, arith}
-use Rattle.std.proofs.lemmas.Option.{get_or_from_slice_get, none-some, slice_get-get_or}
-use Rattle.frames.specs.Tables.{table_rows}
-use Rattle.frames.specs.Words.{places}
-use Rattle.rules.specs.Packed.{byte_is, digit_low, packed_few, packed_more, packed_room}
+use Rattle.std.proofs.Common.{◌+◌, ◌*◌, ◌<◌, cond, map, length, sym, ap, ◌∙◌, arith}
+use Rattle.frames.specs.Rows.{row_of}
+use Rattle.rules.proofs.Bytes.{digit_room, digit_fits, digit_more}
+use Rattle.rules.specs.Rows.{packed}
 use Rattle.rules.proofs.rows.few.FewRows.pack.Goals as goal
-use Rattle.rules.proofs.rows.few.FewRows.pack.Goals.{in-Some, in-None}
-
-pub overflow_mul-bits : goal.overflow_mul-bits
-overflow_mul-bits g c = omega (arith, packed_few (length (table_rows c.args.self.now.table)) c.loop-index.index c.loop-index.bits)
 
 pub overflow_add-bits : goal.overflow_add-bits
-overflow_add-bits g c = omega (arith, packed_few (length (table_rows c.args.self.now.table)) c.loop-index.index c.loop-index.bits, byte_is c.match-row.bit, digit_low c.match-row.bit)
+overflow_add-bits g c =
+    let at = c.loop-index in
+    let few : at.index < 6 = omega (arith, ap length c.in-Some.ensures.steps, at.invariant.count, c.args.self.now.few) in
+    omega (arith, digit_fits at.index at.bits c.from.result c.test.result few at.invariant.room c.from.ensures)
 
 pub loop-index-preserved : goal.loop-index-preserved
 loop-index-preserved g c =
-    let rows = table_rows c.args.self.now.table in
-    let i = c.loop-index.index in
-    let bit = c.match-row.bit in (
-      packed_room (length rows) i c.loop-index.bits c.from.result bit (omega arith) (omega arith) c.loop-index.invariant.0 c.from.ensures,
-      λ says h.
-          let said : bit ≡ says (get_or rows (i - 1) []) = elim c.match-row.branch [
-            | in-Some w ↦ w.bit-is ∙ h w.in-Some.row w.test-bit.result w.test-bit.ensures ∙ ap says (sym (get_or_from_slice_get rows (i - 1) (places w.in-Some.row.bits) [] (sym w.in-Some.ensures)))
-            | in-None w ↦ absurd (none-some (get_or rows (i - 1) []) (w.in-None.ensures ∙ slice_get-get_or rows (i - 1) [] (omega arith)))
-          ] in
-          packed_more says rows i c.loop-index.bits c.from.result bit (omega arith) (c.loop-index.invariant.1 says h) c.from.ensures [] (omega arith) said,
-    )
+    let at = c.loop-index in
+    let few : at.index < 6 = omega (arith, ap length c.in-Some.ensures.steps, at.invariant.count, c.args.self.now.few) in
+    record {
+      count = omega (arith, ap length c.in-Some.ensures.steps, at.invariant.count);
+      room = digit_room at.index at.bits c.from.result c.test.result few at.invariant.room c.from.ensures;
+      packed = λ says h.
+          let rest = map says (map (row_of c.next.new.self.len.places) c.next.new.self.rest.now) in
+          let digit = ap (λ rows. packed (map says rows)) c.in-Some.ensures.steps ∙ ap (λ b. packed rest * 2 + cond b 1 0) (sym (h c.in-Some.row c.test.result c.test.ensures)) in
+          digit_more at.index at.bits c.from.result c.test.result few at.invariant.room c.from.ensures (packed rest) _ _ (at.invariant.packed says h) digit;
+    }
