@@ -1,3 +1,4 @@
 pub mod Bytes
+pub mod Columns
 pub mod Lengths
 pub mod Walks

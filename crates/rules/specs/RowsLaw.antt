@@ -1,23 +1,19 @@
 -- Rows keeps the law of a layer.
-use Rattle.std.specs.Prelude.{◌≡◌, ℕ, zero, suc, ◌+◌, ◌^◌, ◌<◌, Bool, true, false, cond, not, ◌&&◌, List, [], ◌∷◌, map, length, get_or, drop, Some, Err, ◌==◌, bit_xor, nat_eq, nat_lt, slice_index, slice_index_or, refl}
+use Rattle.std.specs.Prelude.{◌≡◌, ℕ, zero, suc, ◌+◌, ◌^◌, ◌<◌, Bool, true, false, cond, not, ◌&&◌, List, [], ◌∷◌, map, length, get_or, drop, Some, ◌==◌, bit_xor, nat_eq, slice_index_or, refl}
 use Rattle.std.specs.Bool.{beq}
 use Rattle.std.proofs.Common.{sym, ap, subst, ◌∙◌, arith}
 use Rattle.std.specs.Int.Bits.{xor_assoc, xor_zero_l, xor_zero_r}
-use Rattle.frames.specs.Halves.{is_odd, is_length}
-use Rattle.frames.specs.Faults.{plain}
+use Rattle.frames.specs.Halves.{is_odd}
 use Rattle.frames.specs.Places.{overlap}
-use Rattle.frames.specs.Rows.{rows_of}
-use Rattle.frames.specs.declared.halves.Halves.{Halves}
 use Rattle.std.proofs.lemmas.Nat.{pow_pos, xor_lt}
 use Rattle.std.proofs.lemmas.List.{drop_all, length-map}
-use Rattle.std.proofs.lemmas.List.FromFn.{get_or-map-range_with_len, length-map-range_with_len}
-use Rattle.std.proofs.lemmas.Bool.{and_from, and_right, cond-true, lt-ltb}
+use Rattle.std.proofs.lemmas.Bool.{and_right}
 use Rattle.std.proofs.lemmas.Bool.Decides.{nat_tests}
 use Rattle.rules.specs.Layer.{Closed, Keeps, passes}
-use Rattle.rules.specs.Rows.{rows_from, alike, packed, marks_at, columns_of, parities, rows_own}
+use Rattle.rules.specs.Rows.{alike, packed, marks_at, parities, rows_own}
 use Rattle.rules.specs.Packed.{packed_low, packed_none, packed_xor, packed_equal}
 
-pub overlap_none : (bs : List Bool) → overlap bs [] ≡ 0
+overlap_none : (bs : List Bool) → overlap bs [] ≡ 0
 overlap_none [] = refl
 overlap_none (b ∷ bs) = refl
 
@@ -30,16 +26,6 @@ odd_step : (b : Bool) (bs row : List Bool) (i : ℕ) → is_odd (overlap (b ∷ 
 odd_step b bs [] i = rw (drop_all {X = Bool} i [] (omega arith), overlap_none bs, and_right b false refl)
 odd_step b bs (x ∷ row) zero = odd_more (b && x) (overlap bs row)
 odd_step b bs (x ∷ row) (suc i) = odd_step b bs row i
-
--- more than six rows are refused
-pub rows_many : (n : ℕ) (hs : List Halves) → is_length n ≡ true → 6 < length hs → rows_from n hs ≡ Err (plain 3)
-rows_many n hs h l = cond-true (is_length n && nat_lt 6 (length hs)) (Err (plain 3)) (rows_of n hs) (and_from (is_length n) (nat_lt 6 (length hs)) h (lt-ltb 6 (length hs) l))
-
-pub columns_length : (n : ℕ) (table : List (List Bool)) (cs : List ℕ) → cs ≡ columns_of n table → length cs ≡ n
-columns_length n table cs e = ap length e ∙ length-map-range_with_len (λ i. marks_at i table) 0 n
-
-pub columns_at : (n : ℕ) (table : List (List Bool)) (cs : List ℕ) (i : ℕ) → cs ≡ columns_of n table → i < n → slice_index cs i ≡ marks_at i table
-columns_at n table cs i e h = ap (λ l. slice_index l i) e ∙ get_or-map-range_with_len (λ k. marks_at k table) 0 n i i 0 h (omega arith)
 
 -- the parities over what is left of the rows
 abbrev rest : List (List Bool) → ℕ → List Bool → ℕ

@@ -57,6 +57,5 @@ pub fn law_holds<R: Rule>(rule: &R)
 pub fn has_meaning<R: Rule>(rule: &R) -> bool
     ensures { Decides result (HasMeaning (R.Rule.trellis rule.now)) }
 {
-    let length = rule.length();
-    1 <= length && length <= 128 && rule.states() <= 1024
+    (1..=128).contains(&rule.length()) && rule.states() <= 1024
 }

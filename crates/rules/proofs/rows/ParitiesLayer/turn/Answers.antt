@@ -1,7 +1,7 @@
 use Rattle.std.proofs.Common.{◌≡◌, ◌≤◌, length, get_or, vec_items, arith, rules}
 use Rattle.frames.specs.Tables.{table_rows}
 use Rattle.frames.specs.Words.{places}
-use Rattle.rules.specs.RowsLaw.{columns_length, columns_at}
+use Rattle.rules.proofs.Columns.{columns_length, columns_at}
 use Rattle.rules.proofs.rows.ParitiesLayer.turn.Goals as goal
 
 pub returns-in_err-column : goal.returns-in_err-column

@@ -2,7 +2,7 @@ use Rattle.std.proofs.Common.{length, sym, ap}
 use Rattle.frames.specs.Faults.{refused}
 use Rattle.frames.specs.Words.{places}
 use Rattle.rules.proofs.Lengths.{places_length}
-use Rattle.rules.specs.RowsLaw.{rows_many}
+use Rattle.rules.proofs.Columns.{rows_many}
 use Rattle.rules.proofs.rows.few.FewRows.new.Goals as goal
 
 pub returns-then-rows-gt-MOST : goal.returns-then-rows-gt-MOST
