@@ -18,7 +18,7 @@ pub returns : goal.returns
 returns c =
     let table = c.args.self.now.table in
     let w = places c.args.word.now.bits in
-    let all = YieldsList-end (YieldsList-from_first (λ (r : Row). places r.bits) (λ (s : Iter). map (row_of s.len.places) s.rest.now) (table_rows table) c.into_iter-row-iterator.ensures.into_iter_gives) c.loop-row.yielded _ c.loop-row.yielded_by _ _ c.in-None.is c.next.ensures.steps in
+    let all = YieldsList-end (YieldsList-from_first (λ (r : Row). places r.bits) (λ (s : Iter). map (row_of s.len.places) s.rest.now) (table_rows table) c.into_iter-row-iterator.ensures.into_iter_gives) c.loop-row.yielded _ c.loop-row.yielded_by _ c.next.new.self c.in-None.is c.next.ensures.steps in
     let e : length w ≡ (table_of table).0 = sym c.len.ensures ∙ c.if-len-row_len.false ∙ c.row_len.ensures in
     c.loop-row.invariant
     ∙ ap (λ (rows : List (List Bool)). even_over rows w) all.0
