@@ -58,7 +58,7 @@ module _ {V : Type 0} (m : Model V) where
     -- one price more, as at a step of a loop
     pub sums_more : (ps : List Price) (i : ℕ) (d : Price) {a b s : V} → i < length ps → Sums m (take i ps) a → asked (get_or ps i d) < 65536 → b ≡ price_of m (get_or ps i d)
         → (Addable m a b → s ≡ m.plus a b) → Sums m (take (i + 1) ps) s
-    sums_more ps i d {a} {b} {s} within h low one sums =
+    sums_more ps i d within h low one sums =
         let p = get_or ps i d in
         rw (take_more ps i d within) (record {
           range = range-++ (take i ps) (p ∷ []) h.range (low, tt);

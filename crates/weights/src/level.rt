@@ -41,9 +41,7 @@ impl Weight for Level {
     }
 
     fn surcharge(p: u16) -> Level {
-        Level {
-            number: u32::from(p),
-        }
+        Level::flip(p)
     }
 
     fn plus(self, other: Level) -> Level {
