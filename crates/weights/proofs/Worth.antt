@@ -59,8 +59,9 @@ module _ {V : Type 0} (m : Model V) where
     pub sums_more : (ps : List Price) (i : ℕ) (d : Price) {a b s : V} → i < length ps → Sums m (take i ps) a → asked (get_or ps i d) < 65536 → b ≡ price_of m (get_or ps i d)
         → (Addable m a b → s ≡ m.plus a b) → Sums m (take (i + 1) ps) s
     sums_more ps i d within h low one sums =
+        let qs = take i ps in
         let p = get_or ps i d in
         rw (take_more ps i d within) (record {
-          range = range-++ (take i ps) (p ∷ []) h.range (low, tt);
-          value = λ short. let l = length-append (take i ps) (p ∷ []) in worth_sum (take i ps) (p ∷ []) h.range (low, tt) (omega arith) (h.value (omega arith)) (one ∙ sym (worth_one p low)) sums;
+          range = range-++ qs (p ∷ []) h.range (low, tt);
+          value = λ short. let l = length-append qs (p ∷ []) in worth_sum qs (p ∷ []) h.range (low, tt) (omega arith) (h.value (omega arith)) (one ∙ sym (worth_one p low)) sums;
         })
