@@ -8,7 +8,6 @@ use lib.Ieee.Fits.{down_pos}
 use lib.Ieee.Exact.{HasValue}
 use lib.Ieee.Nearest.{div_same}
 use lib.Ieee.Scale.{grid}
-use Rattle.std.proofs.lemmas.Bool.{and_parts}
 use Rattle.frames.specs.Cells.{is_level, is_sum, weight_of}
 use Rattle.frames.specs.Near.{signed, exact_sum, Near}
 use Rattle.frames.proofs.Rounds.{grid_le, grid_off, round_value}

@@ -1,4 +1,4 @@
-use Rattle.std.proofs.Common.{ℕ, Some, eqb, ◌%◌, ap, ◌∙◌, arith}
+use Rattle.std.proofs.Common.{ℕ, Some, ap, ◌∙◌, arith}
 use Rattle.frames.specs.Halves.{is_odd}
 use Rattle.frames.proofs.Joined.{bit_first, bit_second, bit_past}
 use Rattle.frames.proofs.bits.Bits.bit.Goals.{then-place-lt64, else-place-lt64}
