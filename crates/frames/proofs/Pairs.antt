@@ -8,7 +8,6 @@ use lib.Ieee.Fits.{down_pos}
 use lib.Ieee.Exact.{HasValue}
 use lib.Ieee.Nearest.{div_same}
 use lib.Ieee.Scale.{grid}
-use Rattle.std.proofs.lemmas.Bool.{and_parts}
 use Rattle.frames.specs.Cells.{is_level, is_sum, weight_of}
 use Rattle.frames.specs.Near.{signed, exact_sum, Near}
 use Rattle.frames.proofs.Rounds.{grid_le, grid_off, round_value}
@@ -138,6 +137,3 @@ pair_near x y r =
     let w = 256 * r.units / 2 ^ 149 in
     let e : weight_of (add binary32 x y) ≡ w = weight_of_lem (add binary32 x y) r.minus r.units r.is in
     subst (Near x y) (sym e) (omega arith, omega arith)
-
-pub from_test : (x y : Float) → true ≡ (is_level x && is_level y) → T (fits binary32 x) → T (fits binary32 y) → Rounded x y
-from_test x y e f g = let p = and_parts (is_level x) (is_level y) (sym e) in rounded x y (subst T (sym p.0) tt) (subst T (sym p.1) tt) f g
