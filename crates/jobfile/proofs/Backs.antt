@@ -1,8 +1,9 @@
 -- Writing what was read gives the bytes back.
-use Rattle.std.proofs.Common.{◌≡◌, ℕ, ◌+◌, ◌*◌, ◌/◌, ◌%◌, ◌^◌, ◌<◌, Bool, true, not, T, eqb, List, [], ◌∷◌, ◌++◌, length, get_or, IfOk, Ok, Err, Result, sym, ◌∙◌, subst, ap₂, arith, rules}
+use Rattle.std.proofs.Common.{◌≡◌, ℕ, zero, suc, ◌+◌, ◌*◌, ◌^◌, ◌<◌, Bool, true, not, T, eqb, List, [], ◌∷◌, ◌++◌, length, get_or, IfOk, Ok, Err, Result, sym, refl, ◌∙◌, subst, ap₂, arith, lit<, rules}
 use lib.Ieee.{Float, nan, inf, fin, binary32, is_nan, of_bits, to_bits}
 use lib.Ieee.Bits.{to_bits-of_bits}
 use Rattle.std.proofs.lemmas.List.{same_lists, places}
+use Rattle.std.proofs.lemmas.Nat.{le_bytes_4}
 use Rattle.std.proofs.lemmas.Bool.{and_parts, eqb-true, cond_both}
 use Rattle.frames.specs.Cells.{is_level, is_good}
 use Rattle.frames.specs.declared.readings.Reading.{Reading}
@@ -13,16 +14,14 @@ use Rattle.jobfile.specs.Records.{pattern, four_bytes, record_of_parts, record_o
 
 -- ---- four bytes and their number
 pub four_is : (a b c d : ℕ) → a < 256 → b < 256 → c < 256 → d < 256 → four_bytes (a + b * 256 + c * 65536 + d * 16777216) ≡ a ∷ b ∷ c ∷ d ∷ []
-four_is a b c d ha hb hc hd =
-    let n = a + b * 256 + c * 65536 + d * 16777216 in
-    let p : n % 256 ≡ a = omega arith in
-    let q : n / 256 ≡ b + c * 256 + d * 65536 = omega arith in
-    let q' : n / 256 % 256 ≡ b = rw q (omega arith) in
-    let r : n / 65536 ≡ c + d * 256 = omega arith in
-    let r' : n / 65536 % 256 ≡ c = rw r (omega arith) in
-    let s : n / 16777216 ≡ d = omega arith in
-    let s' : n / 16777216 % 256 ≡ d = rw s (omega arith) in
-    cc
+four_is a b c d ha hb hc hd = le_bytes_4 (a ∷ b ∷ c ∷ d ∷ []) (a + b * 256 + c * 65536 + d * 16777216) refl fits refl
+  where
+    fits : (i : ℕ) → get_or (a ∷ b ∷ c ∷ d ∷ []) i 0 < 256
+    fits zero = ha
+    fits (suc zero) = hb
+    fits (suc (suc zero)) = hc
+    fits (suc (suc (suc zero))) = hd
+    fits (suc (suc (suc (suc i)))) = lit< tt
 
 nine : (xs : List ℕ) → length xs ≡ 9 → get_or xs 0 0 ∷ get_or xs 1 0 ∷ get_or xs 2 0 ∷ get_or xs 3 0 ∷ get_or xs 4 0 ∷ get_or xs 5 0 ∷ get_or xs 6 0 ∷ get_or xs 7 0 ∷ get_or xs 8 0 ∷ [] ≡ xs
 nine xs l = same_lists _ _ (search (rules, places)) (λ k d h. grind (arith, places))

@@ -158,7 +158,7 @@ fn put_job(job: &Job, out: &mut [u8])
 {
     put_readings(out, &job.readings);
     put_rows(out, 9 * job.readings.len(), &job.rows);
-    put(out, sections_len(job), &trailer_for(job).to_bytes());
+    put(out, sections_len(job), &<[u8; 16]>::from(trailer_for(job)));
 }
 
 // Writes the file of a job, if a file can hold the job and there is room, and says how many bytes it has.

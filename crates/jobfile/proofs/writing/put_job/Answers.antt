@@ -29,7 +29,7 @@ pub trailer_for-requires : goal.trailer_for-requires
 trailer_for-requires c = (holdable (contents c.args.job.now) c.requires.good).numbered
 
 pub put-requires : goal.put-requires
-put-requires c = omega (arith, c.sections_len.ensures.value, ap length c.to_bytes.ensures, c.requires.space, c.put_readings.auto.out, c.put_rows.auto.out)
+put-requires c = omega (arith, c.sections_len.ensures.value, ap length c.from.ensures, c.requires.space, c.put_readings.auto.out, c.put_rows.auto.out)
 
 pub returns : goal.returns
 returns c =
@@ -41,6 +41,6 @@ returns c =
           c.sections_len.ensures.value
           (c.put_readings.ensures.bytes ∙ ap (λ (xs : List Reading). pasted 0 (flat_map record_of xs) c.args.out.now) c.deref.ensures.value)
           (c.put_rows.ensures ∙ ap (λ (hs : List Halves). pasted (9 * c.len.result) (flat_map (packed 16) (map places_of hs)) c.put_readings.new.out) c.deref-2.ensures.value)
-          (c.put.ensures ∙ ap (λ (xs : List ℕ). pasted c.sections_len.result xs c.put_rows.new.out) (c.to_bytes.ensures ∙ ap trailer_bytes c.trailer_for.ensures));
+          (c.put.ensures ∙ ap (λ (xs : List ℕ). pasted c.sections_len.result xs c.put_rows.new.out) (c.from.ensures ∙ ap trailer_bytes c.trailer_for.ensures));
       held = subst AllHeld c.deref.ensures.value c.put_readings.ensures.held;
     }
