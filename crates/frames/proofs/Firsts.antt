@@ -1,42 +1,30 @@
--- A loop that looks for the first element that fails a test.
-use Rattle.std.proofs.Common.{◌≡◌, ℕ, zero, suc, ◌+◌, ◌<◌, ◌≤◌, Bool, true, false, cond, List, [], ◌∷◌, length, get_or, drop, Some, None, Option, sym, refl, ap, ◌∙◌, add-zero, zero-add, add-one, arith, drop-cons}
-use Rattle.std.proofs.lemmas.List.{drop_all}
+-- The first element that fails a test.
+use Rattle.std.proofs.Common.{◌≡◌, ℕ, zero, suc, ◌+◌, ◌<◌, Bool, true, false, cond, not, List, [], ◌∷◌, length, get_or, Some, None, Option, sym, refl, ap, ◌∙◌, add-zero, zero-add, arith}
+use Rattle.std.specs.List.{position, position_from}
+use Rattle.std.proofs.lemmas.Iterator.Adapters.{position_from-zero}
 use Rattle.std.specs.Option.{option_map}
 use Rattle.frames.specs.Firsts.{first_failing}
 
-module _ {X : Type 0} (test : X → Bool) (xs : List X) where
-  -- none before place i fails
-  abbrev pub PassedTo : ℕ → Type 0
-  PassedTo i = first_failing test xs ≡ option_map (λ k. i + k) (first_failing test (drop i xs))
-
-  mapped_mapped : (i : ℕ) (o : Option ℕ) → option_map (λ k. i + k) (option_map suc o) ≡ option_map (λ k. i + 1 + k) o
+-- it is what the library's `position` finds
+module _ {X : Type 0} (test : X → Bool) where
+  mapped_mapped : (i : ℕ) (o : Option ℕ) → option_map (λ k. i + 1 + k) o ≡ option_map (λ k. i + k) (option_map suc o)
   mapped_mapped i None = refl
-  mapped_mapped i (Some k) = let e : i + suc k ≡ i + 1 + k = omega arith in ap Some e
+  mapped_mapped i (Some k) = let e : i + 1 + k ≡ i + suc k = omega arith in ap Some e
 
-  mapped_zero : (o : Option ℕ) → o ≡ option_map (λ k. 0 + k) o
+  mapped_zero : (o : Option ℕ) → option_map (λ k. 0 + k) o ≡ o
   mapped_zero None = refl
-  mapped_zero (Some k) = ap Some (sym (zero-add k))
+  mapped_zero (Some k) = ap Some (zero-add k)
 
-  pub passed_none : PassedTo 0
-  passed_none = mapped_zero (first_failing test xs)
+  from_place : (i : ℕ) (xs : List X) → position_from (λ x. not (test x)) i xs ≡ option_map (λ k. i + k) (first_failing test xs)
+  from_place i [] = refl
+  from_place i (x ∷ xs) = go (test x) (from_place (i + 1) xs)
+    where
+      go : (b : Bool) → position_from (λ y. not (test y)) (i + 1) xs ≡ option_map (λ k. i + 1 + k) (first_failing test xs) → cond (not b) (Some i) (position_from (λ y. not (test y)) (i + 1) xs) ≡ option_map (λ k. i + k) (cond b (option_map suc (first_failing test xs)) (Some 0))
+      go true p = p ∙ mapped_mapped i (first_failing test xs)
+      go false p = ap Some (sym (add-zero i))
 
-  pub passed_more : (i : ℕ) (d : X) → i < length xs → test (get_or xs i d) ≡ true → PassedTo i → PassedTo (i + 1)
-  passed_more i d h t p =
-      p
-      ∙ ap (λ (ys : List X). option_map (λ k. i + k) (first_failing test ys)) (drop-cons xs i d h)
-      ∙ ap (λ (b : Bool). option_map (λ k. i + k) (cond b (option_map suc (first_failing test (drop (suc i) xs))) (Some 0))) t
-      ∙ mapped_mapped i (first_failing test (drop (suc i) xs))
-      ∙ ap (λ (n : ℕ). option_map (λ k. i + 1 + k) (first_failing test (drop n xs))) (sym (add-one i))
-
-  pub passed_failing : (i : ℕ) (d : X) → i < length xs → test (get_or xs i d) ≡ false → PassedTo i → first_failing test xs ≡ Some i
-  passed_failing i d h t p =
-      p
-      ∙ ap (λ (ys : List X). option_map (λ k. i + k) (first_failing test ys)) (drop-cons xs i d h)
-      ∙ ap (λ (b : Bool). option_map (λ k. i + k) (cond b (option_map suc (first_failing test (drop (suc i) xs))) (Some 0))) t
-      ∙ ap Some (add-zero i)
-
-  pub passed_all : (i : ℕ) → length xs ≤ i → PassedTo i → first_failing test xs ≡ None
-  passed_all i h p = p ∙ ap (λ (ys : List X). option_map (λ k. i + k) (first_failing test ys)) (drop_all i xs h)
+  pub found_first : (xs : List X) (o : Option ℕ) → o ≡ position (λ x. not (test x)) xs → first_failing test xs ≡ o
+  found_first xs o e = sym (e ∙ position_from-zero (λ x. not (test x)) xs ∙ from_place 0 xs ∙ mapped_zero (first_failing test xs))
 
 -- where none fails, each passes
 pub each_passes : {X : Type 0} (test : X → Bool) (xs : List X) (i : ℕ) (d : X) → first_failing test xs ≡ None → i < length xs → test (get_or xs i d) ≡ true

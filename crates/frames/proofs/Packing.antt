@@ -4,14 +4,15 @@ use mir.Val.{bool_byte}
 use Rattle.std.proofs.lemmas.List.{take_more, map_more}
 use Rattle.std.proofs.lemmas.Bool.{cond-true}
 use Rattle.frames.specs.Cells.{is_good, cell_for, cell_of}
-use Rattle.frames.specs.Faults.{plain}
+use Rattle.frames.specs.Faults.{plain, telling, refused}
 use Rattle.frames.specs.Firsts.{first_failing}
 use Rattle.frames.specs.Frames.{bit_for, weight_for, frame_unless, frame_of, AllNear}
 use Rattle.frames.specs.Halves.{is_odd, digits_of, is_length}
+use Rattle.frames.specs.Lengths.{length_of}
 use Rattle.frames.specs.Near.{NearFor}
 use Rattle.frames.specs.declared.readings.Cell.{Cell}
 use Rattle.frames.specs.declared.readings.Reading.{Reading}
-use Rattle.frames.proofs.TableRows.{is_length_lem}
+use Rattle.frames.proofs.TableRows.{same_length}
 
 -- what `cell` says where it gives one, and where it gives none
 pub some_cell : (r : Reading) (k : Cell) → Some k ≡ cell_of r → k ≡ cell_for r
@@ -68,8 +69,13 @@ near_push (x ∷ rs) (v ∷ ws) r w a n = (a.0, near_push rs ws r w a.1 n)
 pub near_more : (rs : List Reading) (i : ℕ) (d : Reading) (ws : List ℕ) (w : ℕ) → i < length rs → AllNear (take i rs) ws → NearFor (get_or rs i d) w → AllNear (take (i + 1) rs) (ws ++ w ∷ [])
 near_more rs i d ws w l a n = rw (take_more rs i d l) (near_push (take i rs) ws (get_or rs i d) w a n)
 
--- what good readings give
-pub frame_good : (rs : List Reading) → (length rs ≡ 0 → ⊥) → length rs ≤ 128 → first_failing is_good rs ≡ None → frame_of rs ≡ Ok (map bit_for rs, map weight_for rs)
-frame_good rs z h e =
-    cond-true (is_length (length rs)) (frame_unless (first_failing is_good rs) rs) (Err (plain 1)) (is_length_lem (length rs) z h)
-    ∙ ap (λ (o : Option ℕ). frame_unless o rs) e
+-- what readings give, whose number is a length
+module _ (rs : List Reading) (n : ℕ) (e : Some (Ok n) ≡ Some (length_of (length rs))) where
+  frame_by : frame_of rs ≡ frame_unless (first_failing is_good rs) rs
+  frame_by = cond-true (is_length (length rs)) (frame_unless (first_failing is_good rs) rs) (Err (plain 1)) (same_length (length rs) n e).1
+
+  pub frame_refused : (place : ℕ) → first_failing is_good rs ≡ Some place → Some (telling 2 place) ≡ refused (frame_of rs)
+  frame_refused place f = sym (ap refused (frame_by ∙ ap (λ (o : Option ℕ). frame_unless o rs) f))
+
+  pub frame_good : first_failing is_good rs ≡ None → frame_of rs ≡ Ok (map bit_for rs, map weight_for rs)
+  frame_good f = frame_by ∙ ap (λ (o : Option ℕ). frame_unless o rs) f

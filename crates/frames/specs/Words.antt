@@ -6,7 +6,7 @@ use Rattle.frames.specs.declared.bits.Bits.{Bits}
 
 -- the places of a word, a pattern or a row
 abbrev pub places : Bits → List Bool
-places b = spelled b.len b.first b.second
+places b = spelled b.len.places b.halves.first b.halves.second
 
 -- the places that a length and two halves give, or why they give none
 abbrev pub bits_of : ℕ → ℕ → ℕ → Result (List Bool) Refusal

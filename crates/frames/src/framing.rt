@@ -1,12 +1,12 @@
 // The hard word and the weights of a frame of readings.
-ghost use Rattle.std.specs.Prelude.{◌≡◌, IfOk};
+ghost use Rattle.std.specs.Prelude.{◌≡◌, not, position, IfOk};
 ghost use Rattle.frames.specs.Cells.{is_good};
 ghost use Rattle.frames.specs.Faults.{Answers};
-ghost use Rattle.frames.specs.Firsts.{first_failing};
 ghost use Rattle.frames.specs.Frames.{frame_of, held, AllNear};
 
 use crate::bits::Bits;
 use crate::faults::Fault;
+use crate::length::Length;
 use crate::readings::Reading;
 use crate::words::Word;
 use std::alloc::Global;
@@ -20,14 +20,9 @@ pub struct Frame {
 
 // The first place whose reading is not good.
 fn first_bad(readings: &[Reading]) -> Option<usize>
-    ensures { result ≡ first_failing is_good readings.now }
+    ensures { result ≡ position (λ r. not (is_good r)) readings.now }
 {
-    for (place, reading) in readings.iter().enumerate() {
-        if !reading.is_good() {
-            return Some(place);
-        }
-    }
-    None
+    readings.iter().position(|reading| !reading.is_good())
 }
 
 impl Frame {
@@ -36,23 +31,20 @@ impl Frame {
         ensures value { Answers held result (frame_of readings.now) }
         ensures near { IfOk result (λ f. AllNear readings.now f.weights.items) }
     {
-        let len = readings.len();
-        if len == 0 || len > 128 {
-            return Err(Fault::Length);
-        }
+        let len = Length::try_from(readings.len())?;
         if let Some(place) = first_bad(readings) {
             return Err(Fault::Level(place));
         }
         let mut value: u128 = 0;
         let mut weights = Vec::new(heap);
-        for (place, reading) in readings.iter().enumerate() {
+        for reading in readings {
             let Some(cell) = reading.cell() else {
-                return Err(Fault::Level(place));
+                unreachable()
             };
             value = value * 2 + u128::from(cell.bit);
             weights.push(cell.weight)?;
         }
-        let bits = Bits::spell(len as u8, value);
+        let bits = Bits::spell(len, value);
         Ok(Frame {
             hard: Word { bits },
             weights,

@@ -5,6 +5,7 @@ pub mod bits;
 pub mod faults;
 pub mod framing;
 pub mod halves;
+pub mod length;
 pub mod readings;
 pub mod tables;
 pub mod words;

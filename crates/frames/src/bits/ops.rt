@@ -1,64 +1,49 @@
 // Making bits with a length, and what they answer by the list of their places.
-ghost use Rattle.std.specs.Prelude.{◌≡◌, ◌-◌, ◌%◌, ◌^◌, ◌<◌, ◌≤◌, length, Some, ◌==◌};
+ghost use Rattle.std.specs.Prelude.{◌≡◌, ◌-◌, ◌%◌, ◌^◌, ◌<◌, true, length, Some};
 ghost use Rattle.std.specs.Option.{option_map};
 ghost use Rattle.std.specs.List.{slice_get};
 ghost use Rattle.frames.specs.Faults.{answer};
-ghost use Rattle.frames.specs.Halves.{is_odd, digits_of, unmarked};
+ghost use Rattle.frames.specs.Halves.{is_odd, digits_of, spelled, unmarked};
 ghost use Rattle.frames.specs.Places.{flipped_by, overlap, precedes, marks};
 ghost use Rattle.frames.specs.Words.{places, bits_of};
 
 use crate::bits::Bits;
 use crate::faults::Fault;
 use crate::halves::Halves;
+use crate::length::Length;
 use crate::words::Row;
 
-// Whether a half has no bit below its `kept` highest.
-fn is_clear(half: u64, kept: u8) -> bool
-    ensures { result ≡ (half % 2 ^ (64 - kept) == 0) }
-{
-    kept >= 64 || half & (u64::MAX >> kept) == 0
-}
-
 impl Bits {
-    // Whether no place from `len` on is marked.
-    pub(crate) fn is_unmarked(len: u8, halves: Halves) -> bool
-        requires { len ≤ 128 }
-        ensures { result ≡ unmarked len halves.first halves.second }
-    {
-        is_clear(halves.first, len) && is_clear(halves.second, len.saturating_sub(64))
-    }
-
     // The first `len` places of the halves.
     pub fn new(len: usize, halves: Halves) -> Result<Bits, Fault>
         ensures { answer places result ≡ Some (bits_of len halves.first halves.second) }
     {
-        if len == 0 || len > 128 {
-            return Err(Fault::Length);
-        }
-        let len = len as u8;
-        if !Bits::is_unmarked(len, halves) {
+        let len = Length::try_from(len)?;
+        if !halves.ends_before(len) {
             return Err(Fault::Mark);
         }
-        Ok(Bits {
-            len,
-            first: halves.first,
-            second: halves.second,
-        })
+        Ok(Bits { len, halves })
+    }
+
+    // The first `len` places of halves that have no mark past them.
+    pub(crate) fn of_clean(len: Length, halves: Halves) -> Bits
+        requires { unmarked len.places halves.first halves.second ≡ true }
+        ensures { places result ≡ spelled len.places halves.first halves.second }
+    {
+        Bits { len, halves }
     }
 
     // The places that the `len` lowest digits of a number spell, the highest first.
-    pub(crate) fn spell(len: u8, value: u128) -> Bits
-        requires some { 1 ≤ len }
-        requires most { len ≤ 128 }
-        requires room { value < 2 ^ len }
-        ensures { places result ≡ digits_of len value }
+    pub(crate) fn spell(len: Length, value: u128) -> Bits
+        requires { value < 2 ^ len.places }
+        ensures { places result ≡ digits_of len.places value }
     {
-        let wide = value << (128 - len);
-        Bits {
-            len,
+        let wide = value << (128 - len.places);
+        let halves = Halves {
             first: (wide >> 64) as u64,
             second: (wide % (1 << 64)) as u64,
-        }
+        };
+        Bits { len, halves }
     }
 
     pub fn len(&self) -> usize
@@ -71,12 +56,12 @@ impl Bits {
     pub fn bit(&self, place: usize) -> Option<bool>
         ensures { result ≡ slice_get (places self.now) place }
     {
-        if place >= self.len as usize {
+        if place >= usize::from(self.len) {
             None
         } else if place < 64 {
-            Some((self.first >> (63 - place)) % 2 == 1)
+            Some((self.halves.first >> (63 - place)) % 2 == 1)
         } else {
-            Some((self.second >> (127 - place)) % 2 == 1)
+            Some((self.halves.second >> (127 - place)) % 2 == 1)
         }
     }
 
@@ -87,10 +72,13 @@ impl Bits {
         if self.len != other.len {
             return None;
         }
+        let halves = Halves {
+            first: self.halves.first ^ other.halves.first,
+            second: self.halves.second ^ other.halves.second,
+        };
         Some(Bits {
             len: self.len,
-            first: self.first ^ other.first,
-            second: self.second ^ other.second,
+            halves,
         })
     }
 
@@ -98,16 +86,16 @@ impl Bits {
     pub fn marks(&self) -> u32
         ensures { result ≡ marks (places self.now) }
     {
-        self.first.count_ones() + self.second.count_ones()
+        self.halves.first.count_ones() + self.halves.second.count_ones()
     }
 
     // Parity over a row: whether an odd number of the places that it marks are marked here.
     pub fn parity(&self, row: &Row) -> bool
         ensures { result ≡ is_odd (overlap (places self.now) (places row.now.bits)) }
     {
-        let other = row.bits;
-        let both = (self.first & other.first).count_ones()
-            + (self.second & other.second).count_ones();
+        let other = row.bits.halves;
+        let both = (self.halves.first & other.first).count_ones()
+            + (self.halves.second & other.second).count_ones();
         both % 2 == 1
     }
 
@@ -115,10 +103,6 @@ impl Bits {
     pub fn precedes(&self, other: &Bits) -> bool
         ensures { result ≡ precedes (places self.now) (places other.now) }
     {
-        if self.first == other.first {
-            self.second < other.second
-        } else {
-            self.first < other.first
-        }
+        self.halves < other.halves
     }
 }

@@ -1,29 +1,18 @@
 // Bits as text.
-ghost use Rattle.std.specs.Prelude.{◌≡◌, false, [], ◌∷◌, Some, slice_index_or};
-ghost use Rattle.frames.specs.Texts.{bit_char, bits_text};
+ghost use Rattle.std.specs.Prelude.{Some};
+ghost use Rattle.frames.specs.Texts.{bits_text};
 ghost use Rattle.frames.specs.Words.{places};
 
 use crate::bits::Bits;
 use std::fmt;
 
-// The character of a place: 1 where it is marked, else 0.
-fn digit(bits: &Bits, place: usize) -> &'static str
-    ensures { result.now ≡ bit_char (slice_index_or (places bits.now) place false) ∷ [] }
-{
-    if bits.bit(place).unwrap_or(false) {
-        "1"
-    } else {
-        "0"
-    }
-}
-
-// One character for each place, place 0 first.
+// One character for each place, place 0 first: 1 where it is marked, else 0.
 impl fmt::Display for Bits {
     ghost output = { λ b. Some (bits_text (places b)) };
 
     fn fmt<W: fmt::Write>(&self, f: &mut fmt::Formatter<W>) -> fmt::Result {
-        for place in 0..self.len() {
-            f.write_str(digit(self, place))?;
+        for bit in self {
+            f.write_str(if bit { "1" } else { "0" })?;
         }
         Ok(())
     }

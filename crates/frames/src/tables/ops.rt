@@ -1,9 +1,8 @@
 // Making a table of rows, and reading it.
-ghost use Rattle.std.specs.Prelude.{◌≡◌, ◌≤◌, length};
+ghost use Rattle.std.specs.Prelude.{◌≡◌, not, length, position};
 ghost use Rattle.std.specs.Option.{option_map};
 ghost use Rattle.std.specs.List.{slice_get};
 ghost use Rattle.frames.specs.Faults.{Answers};
-ghost use Rattle.frames.specs.Firsts.{first_failing};
 ghost use Rattle.frames.specs.Rows.{holds_row, rows_of};
 ghost use Rattle.frames.specs.Tables.{table_of, table_rows};
 ghost use Rattle.frames.specs.Words.{places};
@@ -11,21 +10,16 @@ ghost use Rattle.frames.specs.Words.{places};
 use crate::bits::Bits;
 use crate::faults::Fault;
 use crate::halves::Halves;
+use crate::length::Length;
 use crate::tables::RowTable;
 use crate::words::Row;
 use std::alloc::Global;
 
-// The first row with a mark at or past `row_len`.
-fn first_marked(row_len: usize, rows: &[Halves]) -> Option<usize>
-    requires { row_len ≤ 128 }
-    ensures { result ≡ first_failing (holds_row row_len) rows.now }
+// The first row with a mark at or past `len`.
+fn first_marked(len: Length, rows: &[Halves]) -> Option<usize>
+    ensures { result ≡ position (λ row. not (holds_row len.places row)) rows.now }
 {
-    for (index, row) in rows.iter().enumerate() {
-        if !Bits::is_unmarked(row_len as u8, *row) {
-            return Some(index);
-        }
-    }
-    None
+    rows.iter().position(|row| !row.ends_before(len))
 }
 
 impl RowTable {
@@ -33,24 +27,19 @@ impl RowTable {
     pub fn new(heap: Global, row_len: usize, rows: &[Halves]) -> Result<RowTable, Fault>
         ensures { Answers table_of result (rows_of row_len rows.now) }
     {
-        if row_len == 0 || row_len > 128 {
-            return Err(Fault::Length);
-        }
-        if let Some(row) = first_marked(row_len, rows) {
+        let len = Length::try_from(row_len)?;
+        if let Some(row) = first_marked(len, rows) {
             return Err(Fault::RowMark(row));
         }
         let halves = rows.to_vec(heap)?;
-        Ok(RowTable {
-            len: row_len,
-            halves,
-        })
+        Ok(RowTable { len, halves })
     }
 
     // The length that every row has.
     pub fn row_len(&self) -> usize
         ensures { result ≡ (table_of self.now).0 }
     {
-        self.len
+        usize::from(self.len)
     }
 
     // How many rows there are.
@@ -65,9 +54,8 @@ impl RowTable {
         ensures { option_map (λ w. places w.bits) result ≡ slice_get (table_rows self.now) index }
     {
         let halves = *self.halves.get(index)?;
-        match Bits::new(self.row_len(), halves) {
-            Ok(bits) => Some(Row { bits }),
-            Err(_) => None,
-        }
+        Some(Row {
+            bits: Bits::of_clean(self.len, halves),
+        })
     }
 }

@@ -4,12 +4,10 @@ use Rattle.frames.proofs.bits.Bits.spell.Goals as goal
 
 pub invariant_of-result : goal.invariant_of-result
 invariant_of-result c = record {
-  some = c.requires.some;
-  most = c.requires.most;
   above = omega arith;
   below = omega arith;
-  clean = shifted_unmarked c.args.len c.args.value c.requires.most c.requires.room;
+  clean = shifted_unmarked c.args.len.places c.args.value c.args.len.most c.requires;
 }
 
 pub returns : goal.returns
-returns c = shifted_spelled c.args.len c.args.value c.requires.most c.requires.room
+returns c = shifted_spelled c.args.len.places c.args.value c.args.len.most c.requires
