@@ -5,6 +5,8 @@ use Rattle.std.specs.Option.{option_map}
 use Rattle.std.specs.List.{flat_map}
 use Rattle.frames.specs.Cells.{is_good}
 use Rattle.frames.specs.Firsts.{first_failing}
+use Rattle.frames.specs.declared.readings.Reading.{Reading}
+use Rattle.jobfile.specs.declared.records.ReadingFault.TheVariants.{Level}
 use Rattle.jobfile.specs.Jobs.{Contents, contents}
 use Rattle.jobfile.specs.Records.{record_of}
 use Rattle.jobfile.specs.RowPlaces.{packed, places_of, ends_before}
@@ -96,3 +98,15 @@ file_put c at end out o₁ o₂ o₃ a b p q r =
     ∙ pasted_more 0 (R ++ W) T out (omega arith)
     ∙ ap (λ (xs : List ℕ). pasted 0 xs out) (append_assoc R W T)
     ∙ ap (λ (k : ℕ). job_bytes c ++ drop k out) (zero-add (length (job_bytes c)))
+
+-- ---- the first fault of two sections, by the first reading and the first row at fault
+
+module _ (heard : List Reading) (n : ℕ) (marked : List (List Bool)) where
+  abbrev pub told : Option ℕ → Option ℕ → Option FileFault
+  told o q = section_fault_of (option_map (λ k. record { cause = Level; index = k; byte = 9 * k }) o) (option_map (λ k. record { index = k; byte = 9 * n + 16 * k }) q)
+
+  pub reading_told : (k : ℕ) → first_failing is_good heard ≡ Some k → told (Some k) None ≡ section_fault_of (bad_reading_of heard) (bad_row_of n marked)
+  reading_told k e = sym (ap (λ (o : Option ℕ). told o (first_failing (ends_before n) marked)) e)
+
+  pub rows_told : (q : Option ℕ) → first_failing is_good heard ≡ None → first_failing (ends_before n) marked ≡ q → told None q ≡ section_fault_of (bad_reading_of heard) (bad_row_of n marked)
+  rows_told q e f = sym (ap₂ told e f)

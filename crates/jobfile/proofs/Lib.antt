@@ -2,7 +2,7 @@ pub mod Backs
 pub mod LowDigits
 pub mod RowBytes
 pub mod Gathering
-pub mod Sections
+pub mod SectionFacts
 pub mod TrailerFacts
 pub mod Laying
 pub mod FirstBad

@@ -4,6 +4,7 @@ use Rattle.std.proofs.lemmas.List.{append-nil, take-append-drop, drop-drop, leng
 use Rattle.std.proofs.lemmas.Result.{IfOk-at_ok}
 use Rattle.std.proofs.lemmas.Bool.{and_parts, eqb-true, leb-true}
 use Rattle.std.specs.List.{flat_map}
+use Rattle.std.proofs.lemmas.Grind.{flat_map-append}
 use Rattle.frames.specs.declared.readings.Reading.{Reading}
 use Rattle.jobfile.specs.Files.{located, reading_at, row_at, readings_in, rows_in, job_of_sections, job_of_trailer, job_of, Answers}
 use Rattle.jobfile.specs.Gathered.{with_next, gathered}
@@ -20,7 +21,7 @@ use Rattle.jobfile.specs.declared.records.ReadingFault.{ReadingFault}
 use Rattle.jobfile.specs.declared.trailers.Trailer.{Trailer}
 use Rattle.jobfile.proofs.Backs.{record_back}
 use Rattle.jobfile.proofs.LowDigits.{packed_back}
-use Rattle.jobfile.proofs.RowBytes.{part_fits, part_length, part_append, joined_append}
+use Rattle.jobfile.proofs.RowBytes.{part_fits, part_length, part_append}
 use Rattle.jobfile.proofs.TrailerBytes.{trailer_past, kind_past, mark_past, bytes_back}
 use Rattle.jobfile.proofs.TrailerFacts.{good_trailer}
 
@@ -41,7 +42,7 @@ module _ {X E : Type 0} (f : ℕ → Result X E) (g : X → List ℕ) (size at :
       let m : size * suc i ≡ size * i + size = mul-suc size i in
       let ih = section_back i p.0 (omega arith) p.2 in (
         ap (flat_map g) p.4
-            ∙ joined_append g p.0 (p.1 ∷ [])
+            ∙ flat_map-append g p.0 (p.1 ∷ [])
             ∙ ap₂ (λ (us vs : List ℕ). us ++ vs) ih.0 (append-nil (g p.1) ∙ back i p.1 l p.3)
             ∙ sym (part_append (size * i) size at bs)
             ∙ ap (λ (k : ℕ). take k (drop at bs)) (sym m),

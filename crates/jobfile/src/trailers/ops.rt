@@ -5,7 +5,7 @@ ghost use Rattle.jobfile.specs.declared.faults.FileFault.TheVariants.{Numbers};
 
 use crate::faults::FileFault;
 use crate::jobs::WeightKind;
-use crate::trailers::Trailer;
+use crate::trailers::{Numbers, Trailer};
 
 // The last byte of every file.
 const MARK: u8 = 0x5A;
@@ -35,19 +35,19 @@ impl From<WeightKind> for u8 {
     }
 }
 
-// Whether a job may have these numbers.
-pub(crate) fn are_good(n: usize, rows: usize, guessed: usize, limit: usize) -> bool
-    ensures { result ≡ good_numbers n rows guessed limit }
-{
-    n >= 1
-        && n <= 128
-        && limit >= 1
-        && limit <= 1024
-        && rows <= 32
-        && guessed <= 6
-        && guessed <= rows
-        && n * limit <= 1024
-        && (n + 1) << guessed <= 1024
+impl Numbers {
+    // Whether a job may have these numbers.
+    pub(crate) fn are_good(&self) -> bool
+        ensures { result ≡ good_numbers self.now.n self.now.rows self.now.guessed self.now.limit }
+    {
+        (1..=128).contains(&self.n)
+            && (1..=1024).contains(&self.limit)
+            && self.rows <= 32
+            && self.guessed <= 6
+            && self.guessed <= self.rows
+            && self.n * self.limit <= 1024
+            && (self.n + 1) << self.guessed <= 1024
+    }
 }
 
 impl TryFrom<[u8; 16]> for Trailer {
@@ -95,12 +95,13 @@ impl Trailer {
     fn is_good(&self) -> bool
         ensures { result ≡ is_good_trailer self.now }
     {
-        are_good(
-            usize::from(self.n),
-            usize::from(self.rows),
-            usize::from(self.guessed),
-            usize::from(self.limit),
-        )
+        let numbers = Numbers {
+            n: usize::from(self.n),
+            rows: usize::from(self.rows),
+            guessed: usize::from(self.guessed),
+            limit: usize::from(self.limit),
+        };
+        numbers.are_good()
     }
 
     // Whether no section has a byte at or past `end`, or in the other section.
