@@ -45,16 +45,16 @@ pub record Holdable (c : Contents) : Type 0 where
 
 none_mapped : {X Y : Type 0} (f : X → Y) (o : Option X) → option_map f o ≡ None → o ≡ None
 none_mapped f None e = refl
-none_mapped f (Some x) e = let z : ◌≡◌ {A = ℕ} 0 1 = cc in absurd (omega arith)
+none_mapped f (Some x) e = absurd (cc)
 
 none_sections : (o : Option BadReading) (q : Option BadRow) → section_fault_of o q ≡ None → (o ≡ None) × (q ≡ None)
 none_sections None None e = (refl, refl)
-none_sections None (Some x) e = let z : ◌≡◌ {A = ℕ} 0 1 = cc in absurd (omega arith)
-none_sections (Some x) q e = let z : ◌≡◌ {A = ℕ} 0 1 = cc in absurd (omega arith)
+none_sections None (Some x) e = absurd (cc)
+none_sections (Some x) q e = absurd (cc)
 
 none_numbers : (b : Bool) (o : Option FileFault) → cond b o (Some Numbers) ≡ None → (b ≡ true) × (o ≡ None)
 none_numbers true o e = (refl, e)
-none_numbers false o e = let z : ◌≡◌ {A = ℕ} 0 1 = cc in absurd (omega arith)
+none_numbers false o e = absurd (cc)
 
 pub holdable : (c : Contents) → job_fault c ≡ None → Holdable c
 holdable c e =

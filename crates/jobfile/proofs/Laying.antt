@@ -1,5 +1,5 @@
 -- Bytes that are put one after another.
-use Rattle.std.proofs.Common.{◌≡◌, ℕ, suc, ◌+◌, ◌-◌, ◌*◌, ◌<◌, ◌≤◌, List, [], ◌∷◌, ◌++◌, length, get_or, take, drop, sym, refl, ap, ◌∙◌, ap₂, add-zero, add_assoc, mul-zero, mul-suc, arith}
+use Rattle.std.proofs.Common.{◌≡◌, ℕ, suc, ◌+◌, ◌*◌, ◌<◌, ◌≤◌, List, [], ◌∷◌, ◌++◌, length, get_or, take, drop, sym, refl, ap, ◌∙◌, ap₂, add-zero, add_assoc, mul-zero, mul-suc, arith}
 use Rattle.std.proofs.lemmas.List.{append_assoc, append-nil, length-append, length-take-le, take-append-drop, take_at, drop_at, drop-drop, take_more}
 use Rattle.std.specs.List.{flat_map}
 use Rattle.std.proofs.lemmas.Grind.{flat_map-append}
@@ -7,7 +7,6 @@ use Rattle.frames.specs.declared.readings.Reading.{Reading}
 use Rattle.frames.specs.declared.readings.Reading.TheVariants.{Dropout, Single, Pair}
 use Rattle.jobfile.specs.Records.{record_of}
 use Rattle.jobfile.specs.Pasted.{pasted}
-use borrow.Rule.Slice.PartMut.{put_mid}
 
 pub pasted_none : (at : ℕ) (out : List ℕ) → pasted at [] out ≡ out
 pasted_none at out = ap (λ (n : ℕ). take at out ++ drop n out) (add-zero at) ∙ take-append-drop at out
@@ -42,12 +41,6 @@ module _ {X : Type 0} (f : X → List ℕ) (xs : List X) (i : ℕ) (d : X) (h : 
       ap (λ (k : ℕ). pasted (at + k) (f (get_or xs i d)) (pasted at (flat_map f (take i xs)) out)) (sym e)
       ∙ pasted_more at (flat_map f (take i xs)) (f (get_or xs i d)) out l
       ∙ ap (λ (ys : List ℕ). pasted at ys out) (sym joined_next)
-
--- what is left where a part was copied
-pub put_is : (at : ℕ) (out ys piece : List ℕ) → ys ≡ piece → put_mid at (at + length piece - at) out ys ≡ pasted at piece out
-put_is at out ys piece e =
-    let n : at + length piece - at ≡ length piece = omega arith in
-    ap₂ (λ (k : ℕ) (zs : List ℕ). put_mid at k out zs) n e ∙ ap (λ (zs : List ℕ). take at out ++ (piece ++ zs)) (drop-drop (length piece) at out)
 
 -- ---- records
 

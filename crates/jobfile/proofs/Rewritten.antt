@@ -28,8 +28,8 @@ use Rattle.jobfile.proofs.TrailerFacts.{good_trailer}
 -- ---- a section, piece by piece
 
 ok_parts : {X E : Type 0} (a : Result (List X) E) (b : Result X E) (xs : List X) → with_next a b ≡ Ok xs → (ys : List X) × (y : X) × (a ≡ Ok ys) × (b ≡ Ok y) × (xs ≡ ys ++ y ∷ [])
-ok_parts (Err e) b xs h = let z : ◌≡◌ {A = ℕ} 0 1 = cc in absurd (omega arith)
-ok_parts (Ok ys) (Err e) xs h = let z : ◌≡◌ {A = ℕ} 0 1 = cc in absurd (omega arith)
+ok_parts (Err e) b xs h = absurd (cc)
+ok_parts (Ok ys) (Err e) xs h = absurd (cc)
 ok_parts (Ok ys) (Ok y) xs h = (ys, y, refl, refl, cc)
 
 module _ {X E : Type 0} (f : ℕ → Result X E) (g : X → List ℕ) (size at : ℕ) (bs : List ℕ) (back : (k : ℕ) (x : X) → at + size * suc k ≤ length bs → f k ≡ Ok x → g x ≡ take size (drop (at + size * k) bs)) where
@@ -52,7 +52,7 @@ module _ {X E : Type 0} (f : ℕ → Result X E) (g : X → List ℕ) (size at :
 module _ (bs : List ℕ) (fits : (i : ℕ) → get_or bs i 0 < 256) where
   not_located : (k p : ℕ) (r : Result Reading ReadingFault) (x : Reading) → located k p r ≡ Ok x → r ≡ Ok x
   not_located k p (Ok y) x e = cc
-  not_located k p (Err d) x e = let z : ◌≡◌ {A = ℕ} 0 1 = cc in absurd (omega arith)
+  not_located k p (Err d) x e = absurd (cc)
 
   reading_bytes : (at k : ℕ) (x : Reading) → at + 9 * suc k ≤ length bs → reading_at bs at k ≡ Ok x → record_of x ≡ take 9 (drop (at + 9 * k) bs)
   unfolding reading_at
@@ -62,7 +62,7 @@ module _ (bs : List ℕ) (fits : (i : ℕ) → get_or bs i 0 < 256) where
 
   not_bad : (n k p : ℕ) (b : Bool) (ms xs : List Bool) → ◌≡◌ {A = Result (List Bool) BadRow} (cond b (Ok ms) (Err record { index = k; byte = p })) (Ok xs) → xs ≡ ms
   not_bad n k p true ms xs e = cc
-  not_bad n k p false ms xs e = let z : ◌≡◌ {A = ℕ} 0 1 = cc in absurd (omega arith)
+  not_bad n k p false ms xs e = absurd (cc)
 
   row_bytes : (n at k : ℕ) (ms : List Bool) → at + 16 * suc k ≤ length bs → row_at n bs at k ≡ Ok ms → packed 16 ms ≡ take 16 (drop (at + 16 * k) bs)
   unfolding row_at
@@ -77,11 +77,11 @@ module _ (bs : List ℕ) (fits : (i : ℕ) → get_or bs i 0 < 256) where
 
   trailer_part : (r : Result Trailer FileFault) (c : Contents) → job_of_trailer bs r ≡ Ok c → (t : Trailer) × (Ok t ≡ r) × (job_of_sections t (readings_in bs t) (rows_in bs t) ≡ Ok c)
   trailer_part (Ok t) c e = (t, refl, e)
-  trailer_part (Err d) c e = let z : ◌≡◌ {A = ℕ} 0 1 = cc in absurd (omega arith)
+  trailer_part (Err d) c e = absurd (cc)
 
   section_parts : (t : Trailer) (a : Result (List Reading) BadReading) (b : Result (List (List Bool)) BadRow) (c : Contents) → job_of_sections t a b ≡ Ok c → (a ≡ Ok c.readings) × (b ≡ Ok c.rows) × (c ≡ record { readings = c.readings; rows = c.rows; guessed = t.guessed; limit = t.limit; kind = t.kind })
-  section_parts t (Err d) b c e = let z : ◌≡◌ {A = ℕ} 0 1 = cc in absurd (omega arith)
-  section_parts t (Ok rs) (Err d) c e = let z : ◌≡◌ {A = ℕ} 0 1 = cc in absurd (omega arith)
+  section_parts t (Err d) b c e = absurd (cc)
+  section_parts t (Ok rs) (Err d) c e = absurd (cc)
   section_parts t (Ok rs) (Ok ms) c e =
       let C : Contents = record { readings = rs; rows = ms; guessed = t.guessed; limit = t.limit; kind = t.kind } in
       let q : C ≡ c = cc in

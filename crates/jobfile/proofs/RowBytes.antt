@@ -83,7 +83,7 @@ answered (Ok x) o e = let p : Ok (frames-words.places x) ≡ o = cc in ap is_ok 
 answered (Err fault) o e = go (refusal fault) e
   where
     go : (q : Option Refusal) → option_map Err q ≡ Some o → false ≡ is_ok o
-    go None p = let z : ◌≡◌ {A = ℕ} 0 1 = cc in absurd (omega arith)
+    go None p = absurd (cc)
     go (Some q) p = let s : Err q ≡ o = cc in ap is_ok s
 
 bits_test : (n a b : ℕ) → is_length n ≡ true → is_ok (bits_of n a b) ≡ unmarked n a b

@@ -72,4 +72,4 @@ length_is n m e = go (is_length n) e
   where
     go : (b : Bool) → ◌≡◌ {A = Option (Result ℕ Refusal)} (Some (Ok m)) (Some (cond b (Ok n) (Err (plain 1)))) → m ≡ n
     go true p = cc
-    go false p = let z : ◌≡◌ {A = ℕ} 0 1 = cc in absurd (omega arith)
+    go false p = absurd (cc)

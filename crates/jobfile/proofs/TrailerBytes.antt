@@ -68,12 +68,12 @@ by_last xs low high mark =
     cond-true (has_form xs) (laid_out (trailer_start xs) (trailer_of xs)) (Err Form) form ∙ ap (laid_out (trailer_start xs)) (sym (last_trailer xs low))
 
 laid_ok : (end : ℕ) (o : Option Trailer) (t : Trailer) → Ok t ≡ ok_or o Numbers → laid_out end o ≡ cond (is_laid_out t end) (Ok t) (Err Layout)
-laid_ok end None t e = let z : ◌≡◌ {A = ℕ} 0 1 = cc in absurd (omega arith)
+laid_ok end None t e = absurd (cc)
 laid_ok end (Some u) t e = let q : u ≡ t = cc in ap (λ (v : Trailer). cond (is_laid_out v end) (Ok v) (Err Layout)) q
 
 laid_err : (end : ℕ) (o : Option Trailer) (e : FileFault) → Err e ≡ ok_or o Numbers → Err e ≡ laid_out end o
 laid_err end None e h = cc
-laid_err end (Some u) e h = let z : ◌≡◌ {A = ℕ} 0 1 = cc in absurd (omega arith)
+laid_err end (Some u) e h = absurd (cc)
 
 -- the same of a file that was taken apart
 module _ (xs front last : List ℕ) (low : 16 ≤ length xs) (high : length xs ≤ 4096) (l : last ≡ drop (length xs - 16) xs) (f : length front + 16 ≡ length xs) (mark : get_or last 15 0 ≡ 90) where
