@@ -1,3 +1,4 @@
+pub mod Listed
 pub mod Backs
 pub mod LowDigits
 pub mod RowBytes

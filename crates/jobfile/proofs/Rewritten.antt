@@ -88,9 +88,7 @@ module _ (bs : List ℕ) (fits : (i : ℕ) → get_or bs i 0 < 256) where
       (ap (λ (x : Contents). Ok x.readings) q, ap (λ (x : Contents). Ok x.rows) q, sym q ∙ ap (λ (x : Contents). record { readings = x.readings; rows = x.rows; guessed = t.guessed; limit = t.limit; kind = t.kind }) q)
 
   same_trailer : (t : Trailer) (n k a b : ℕ) → n ≡ t.n → k ≡ t.rows → a ≡ t.readings_at → b ≡ t.rows_at → ◌≡◌ {A = Trailer} record { n = n; rows = k; guessed = t.guessed; readings_at = a; rows_at = b; limit = t.limit; kind = t.kind } t
-  same_trailer t n k a b e₁ e₂ e₃ e₄ =
-      ap₂ {C = Trailer} (λ (x y : ℕ). record { n = x; rows = y; guessed = t.guessed; readings_at = a; rows_at = b; limit = t.limit; kind = t.kind }) e₁ e₂
-      ∙ ap₂ {C = Trailer} (λ (x y : ℕ). record { n = t.n; rows = t.rows; guessed = t.guessed; readings_at = x; rows_at = y; limit = t.limit; kind = t.kind }) e₃ e₄
+  same_trailer t n k a b e₁ e₂ e₃ e₄ = rw (e₁, e₂, e₃, e₄)
 
   trailer_bytes_lem : (t : Trailer) → Ok t ≡ trailer_in bs → trailer_bytes t ≡ drop (trailer_start bs) bs
   trailer_bytes_lem t e =

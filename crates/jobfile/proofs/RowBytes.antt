@@ -1,6 +1,6 @@
 -- A row that is read of 16 bytes, and where it may have marks.
-use Rattle.std.proofs.Common.{◌≡◌, ℕ, ◌+◌, ◌/◌, ◌%◌, ◌^◌, ◌<◌, ◌≤◌, Bool, true, false, cond, List, [], ◌∷◌, ◌++◌, length, get_or, take, drop, is_ok, Some, None, Ok, Err, Option, Result, sym, refl, ap, ◌∙◌, subst, ap₂, inl, inr, arith, rules, lit<}
-use Rattle.std.proofs.lemmas.List.{same_lists, places, append-nil, take_at, drop_at, drop_all, get_or-take, get_or-drop, get_or_past, length-take, length-take-le, length-drop, drop-drop, take-append-drop, drop-take, take-take}
+use Rattle.std.proofs.Common.{◌≡◌, ℕ, ◌+◌, ◌/◌, ◌%◌, ◌^◌, ◌<◌, ◌≤◌, Bool, true, false, cond, List, [], ◌∷◌, ◌++◌, length, get_or, take, drop, is_ok, Some, None, Ok, Err, Option, Result, sym, refl, ap, ◌∙◌, subst, ap₂, inl, inr, arith, lit<}
+use Rattle.std.proofs.lemmas.List.{append-nil, take_at, drop_at, drop_all, get_or-take, get_or-drop, get_or_past, length-take, length-take-le, length-drop, drop-drop, take-append-drop, drop-take, take-take}
 use Rattle.std.proofs.lemmas.Bool.{cases_lt, and_from, le-leb, cond-true}
 use Rattle.std.specs.Int.{w64, from_le_bytes, reverse_bits, reverse_bits_onto}
 use Rattle.std.specs.Option.{option_map}
@@ -13,6 +13,7 @@ use Rattle.frames.specs.Words.{bits_of}
 use Rattle.frames.specs.declared.bits.Bits.{Bits}
 use Rattle.frames.specs.declared.faults.Fault.{Fault}
 use Rattle.jobfile.specs.RowPlaces.{low_digits, byte_places, packed, half_places, ends_before}
+use Rattle.jobfile.proofs.Listed.{listed_whole}
 use Rattle.jobfile.proofs.LowDigits.{length_packed, packed_append, length_half, le_number, le_bytes, half_read, half_written, ends_before_lem}
 
 -- ---- parts of bytes
@@ -37,13 +38,10 @@ part_append j k at xs =
 
 -- ---- a half
 
-eight : (xs : List ℕ) → length xs ≡ 8 → get_or xs 0 0 ∷ get_or xs 1 0 ∷ get_or xs 2 0 ∷ get_or xs 3 0 ∷ get_or xs 4 0 ∷ get_or xs 5 0 ∷ get_or xs 6 0 ∷ get_or xs 7 0 ∷ [] ≡ xs
-eight xs l = same_lists _ _ (search (rules, places)) (λ k d h. grind (arith, places))
-
 pub half_is : (xs : List ℕ) (v r : ℕ) → length xs ≡ 8 → ((i : ℕ) → get_or xs i 0 < 256) → v ≡ from_le_bytes w64 xs → r ≡ reverse_bits w64 v → half_places r ≡ byte_places xs
 half_is xs v r l h e f =
     let n : v ≡ le_number (get_or xs 0 0 ∷ get_or xs 1 0 ∷ get_or xs 2 0 ∷ get_or xs 3 0 ∷ get_or xs 4 0 ∷ get_or xs 5 0 ∷ get_or xs 6 0 ∷ get_or xs 7 0 ∷ []) = omega arith in
-    ap half_places (f ∙ ap (λ (x : ℕ). reverse_bits_onto 64 x 0) (n ∙ ap le_number (eight xs l))) ∙ half_read xs l h
+    ap half_places (f ∙ ap (λ (x : ℕ). reverse_bits_onto 64 x 0) (n ∙ ap le_number (listed_whole 8 xs l))) ∙ half_read xs l h
 
 pub half_bytes : (a v : ℕ) (r : List ℕ) → v ≡ reverse_bits_onto 64 a 0
     → r ≡ (v % 256) ∷ (v / 256 % 256) ∷ (v / 65536 % 256) ∷ (v / 16777216 % 256) ∷ (v / 4294967296 % 256) ∷ (v / 1099511627776 % 256) ∷ (v / 281474976710656 % 256) ∷ (v / 72057594037927936 % 256) ∷ []

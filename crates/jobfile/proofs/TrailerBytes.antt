@@ -1,10 +1,10 @@
 -- A trailer and its 16 bytes.
-use Rattle.std.proofs.Common.{◌≡◌, ℕ, zero, suc, ◌+◌, ◌*◌, ◌/◌, ◌%◌, ◌<◌, ◌≤◌, true, cond, List, [], ◌∷◌, ◌++◌, length, get_or, take, drop, Some, None, Ok, Err, Option, ok_or, sym, refl, ap, ◌∙◌, ap₂, add-zero, add_assoc, ◌-◌, lit<, arith, drop-cons}
-use Rattle.std.proofs.lemmas.List.{get_or-drop, drop_at, length-append, length-drop, take_all}
+use Rattle.std.proofs.Common.{◌≡◌, ℕ, zero, suc, ◌+◌, ◌*◌, ◌/◌, ◌%◌, ◌<◌, ◌≤◌, true, cond, List, [], ◌∷◌, ◌++◌, length, get_or, drop, Some, None, Ok, Err, Option, ok_or, sym, refl, ap, ◌∙◌, ap₂, add-zero, add_assoc, ◌-◌, lit<, arith}
+use Rattle.std.proofs.lemmas.List.{get_or-drop, drop_at, length-append, length-drop}
 use Rattle.std.proofs.lemmas.Nat.{from_le_bytes-to_le_bytes_2, from_le_bytes-to_le_bytes_4, le_bytes_2}
 use Rattle.std.proofs.lemmas.Bool.{and_from, le-leb, eq-eqb, cond-true}
 use Rattle.std.proofs.lemmas.Bool.Decides.{nat_tests}
-use Rattle.jobfile.specs.Records.{pattern, four_bytes}
+use Rattle.jobfile.specs.Records.{pattern}
 use Rattle.jobfile.specs.Trailers.{trailer_start, pair_at, two_bytes, has_form, kind_of, kind_byte, trailer_at, is_good_trailer, checked_trailer, trailer_of_kind, trailer_of, is_laid_out, laid_out, trailer_in, trailer_bytes}
 use Rattle.jobfile.specs.declared.faults.FileFault.{FileFault}
 use Rattle.jobfile.specs.declared.faults.FileFault.TheVariants.{Form, Numbers, Layout}
@@ -12,6 +12,7 @@ use Rattle.jobfile.specs.declared.jobs.WeightKind.{WeightKind}
 use Rattle.jobfile.specs.declared.jobs.WeightKind.TheVariants.{Level, FlipsFirst}
 use Rattle.jobfile.specs.declared.trailers.Trailer.{Trailer}
 use Rattle.jobfile.proofs.Backs.{four_is}
+use Rattle.jobfile.proofs.Listed.{listed_whole}
 
 -- ---- what stands past a place, read from there on
 
@@ -104,9 +105,7 @@ four_number n h = from_le_bytes-to_le_bytes_4 n h
 
 -- the same four numbers
 same_numbers : (t : Trailer) (a b c d : ℕ) → a ≡ t.n → b ≡ t.readings_at → c ≡ t.rows_at → d ≡ t.limit → ◌≡◌ {A = Trailer} record { n = a; rows = t.rows; guessed = t.guessed; readings_at = b; rows_at = c; limit = d; kind = t.kind } t
-same_numbers t a b c d p q r s =
-    ap₂ {C = Trailer} (λ (x y : ℕ). record { n = x; rows = t.rows; guessed = t.guessed; readings_at = y; rows_at = c; limit = d; kind = t.kind }) p q
-    ∙ ap₂ {C = Trailer} (λ (x y : ℕ). record { n = t.n; rows = t.rows; guessed = t.guessed; readings_at = t.readings_at; rows_at = x; limit = y; kind = t.kind }) r s
+same_numbers t a b c d p q r s = rw (p, q, r, s)
 
 read_back : (t : Trailer) → Narrow t → trailer_at (trailer_bytes t) 0 t.kind ≡ t
 read_back t s = same_numbers t _ _ _ _ (pair_number t.n s.n_small) (four_number t.readings_at s.readings_small) (four_number t.rows_at s.rows_small) (pair_number t.limit s.limit_small)
@@ -140,33 +139,12 @@ two_is a b A B = le_bytes_2 (a ∷ b ∷ []) (a + b * 256) refl fits refl
     fits (suc zero) = B
     fits (suc (suc i)) = lit< tt
 
--- the bytes of a list, one by one
-abbrev listed : ℕ → ℕ → List ℕ → List ℕ
-listed zero at xs = []
-listed (suc k) at xs = get_or xs at 0 ∷ listed k (suc at) xs
-
-listed_is : (k at : ℕ) (xs : List ℕ) → at + k ≤ length xs → listed k at xs ≡ take k (drop at xs)
-listed_is zero at xs h = refl
-listed_is (suc k) at xs h =
-    let l : at < length xs = omega arith in
-    ap (λ (ys : List ℕ). get_or xs at 0 ∷ ys) (listed_is k (suc at) xs (omega arith)) ∙ ap (take (suc k)) (sym (drop-cons xs at 0 l))
-
--- the parts of a trailer's bytes
-abbrev assembled : List ℕ → List ℕ → List ℕ → List ℕ → List ℕ → ℕ → ℕ → List ℕ
-assembled ys p a b c x y = p ++ get_or ys 2 0 ∷ get_or ys 3 0 ∷ a ++ b ++ c ++ x ∷ y ∷ []
-
 pub bytes_back : (ys : List ℕ) (k : WeightKind) → length ys ≡ 16 → ((i : ℕ) → get_or ys i 0 < 256) → kind_of (get_or ys 14 0) ≡ Some k → get_or ys 15 0 ≡ 90 → trailer_bytes (trailer_at ys 0 k) ≡ ys
 bytes_back ys k l h e m =
-    let P = two_bytes (pair_at ys 0) in
-    let A = four_bytes (pattern ys 4) in
-    let B = four_bytes (pattern ys 8) in
-    let C = two_bytes (pair_at ys 12) in
     let p = two_is (get_or ys 0 0) (get_or ys 1 0) (h 0) (h 1) in
     let a = four_is (get_or ys 4 0) (get_or ys 5 0) (get_or ys 6 0) (get_or ys 7 0) (h 4) (h 5) (h 6) (h 7) in
     let b = four_is (get_or ys 8 0) (get_or ys 9 0) (get_or ys 10 0) (get_or ys 11 0) (h 8) (h 9) (h 10) (h 11) in
     let c = two_is (get_or ys 12 0) (get_or ys 13 0) (h 12) (h 13) in
-    ap₂ (λ (u v : List ℕ). assembled ys u v B C (kind_byte k) 90) p a
-    ∙ ap₂ (λ (u v : List ℕ). assembled ys (get_or ys 0 0 ∷ get_or ys 1 0 ∷ []) (get_or ys 4 0 ∷ get_or ys 5 0 ∷ get_or ys 6 0 ∷ get_or ys 7 0 ∷ []) u v (kind_byte k) 90) b c
-    ∙ ap₂ (λ (x y : ℕ). assembled ys (get_or ys 0 0 ∷ get_or ys 1 0 ∷ []) (get_or ys 4 0 ∷ get_or ys 5 0 ∷ get_or ys 6 0 ∷ get_or ys 7 0 ∷ []) (get_or ys 8 0 ∷ get_or ys 9 0 ∷ get_or ys 10 0 ∷ get_or ys 11 0 ∷ []) (get_or ys 12 0 ∷ get_or ys 13 0 ∷ []) x y) (kind_of_byte (get_or ys 14 0) k e) (sym m)
-    ∙ listed_is 16 0 ys (omega arith)
-    ∙ take_all 16 ys (omega arith)
+    let w = kind_of_byte (get_or ys 14 0) k e in
+    let all = listed_whole 16 ys l in
+    cc

@@ -1,8 +1,6 @@
 // Reading a file: its sections, and the job that they hold.
-ghost use Rattle.std.specs.Prelude.{◌≡◌, length, IfOk, Ok, Err, vec_items, MatchResult};
-ghost use Rattle.frames.specs.Halves.{is_length};
+ghost use Rattle.std.specs.Prelude.{◌≡◌, IfOk, Ok, Err, vec_items, MatchResult};
 ghost use Rattle.jobfile.specs.Files.{of_readings, readings_in, rows_in, readings_of, job_of_trailer, job_of, Answers};
-ghost use Rattle.jobfile.specs.Gathered.{gathered, with_meaning};
 ghost use Rattle.jobfile.specs.Jobs.{contents};
 ghost use Rattle.jobfile.specs.SectionsRead.{readings_here, rows_here};
 ghost use Rattle.jobfile.specs.Trailers.{trailer_in};
@@ -22,16 +20,14 @@ fn good_records(bytes: &[u8]) -> Result<Good<Readings<'_>>, SectionFault>
     ensures { MatchResult result (λ g. of_readings (readings_here g.section) ≡ readings_of bytes.now) (λ e. readings_of bytes.now ≡ Err (FileFault.Section e)) }
 {
     let (records, _) = bytes.as_chunks();
-    let good = Good::new(Readings { records, at: 0 })?;
-    Ok(good)
+    Ok(Good::new(Readings { records, at: 0 })?)
 }
 
 // The readings of bytes that hold whole records and nothing else; of several bad ones the first is told.
 pub fn read_readings(heap: Global, bytes: &[u8]) -> Result<Vec<Reading>, FileFault>
     ensures { Answers vec_items result (readings_of bytes.now) }
 {
-    let readings = good_records(bytes)?.entries(heap)?;
-    Ok(readings)
+    Ok(good_records(bytes)?.entries(heap)?)
 }
 
 // A file whose trailer is good.

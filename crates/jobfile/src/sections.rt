@@ -1,10 +1,8 @@
 // Sections: entries of one size that stand one right after another.
-ghost use Rattle.std.specs.Prelude.{◌≡◌, ℕ, ◌+◌, ◌*◌, ◌^◌, ◌<◌, Bool, true, List, [], map, length, is_ok, IfOk, Ok, Err, MatchResult, Result, slice_index_or};
+ghost use Rattle.std.specs.Prelude.{◌≡◌, ℕ, ◌+◌, ◌*◌, ◌^◌, ◌<◌, Bool, true, List, map, length, is_ok, IfOk, Ok, Err, MatchResult, Result};
 ghost use Rattle.frames.specs.declared.readings.Reading.{Reading};
-ghost use Rattle.jobfile.specs.Files.{located, checked_row};
 ghost use Rattle.jobfile.specs.Gathered.{gathered, with_meaning};
-ghost use Rattle.jobfile.specs.Records.{reading_of};
-ghost use Rattle.jobfile.specs.RowPlaces.{byte_places, places_of};
+ghost use Rattle.jobfile.specs.RowPlaces.{places_of};
 
 use crate::faults::{BadReading, BadRow};
 use crate::records::read_record;
@@ -14,7 +12,7 @@ use frames::length::Length;
 use frames::readings::Reading;
 use std::alloc::{AllocError, Global};
 
-// What a section holds, by the index of an entry.
+// What a section holds, by the index of an entry, which a fault tells.
 pub(crate) trait Section: Copy {
     type Entry: Drop;
 
@@ -84,13 +82,15 @@ impl Section for Readings<'_> {
 
     type Fault = BadReading;
 
+    ghost use Rattle.jobfile.specs.SectionsRead.{record_gives};
+
     ghost Meaning = { Reading };
 
     ghost meaning = { λ reading. reading };
 
     ghost count = { λ s. length s.records.now };
 
-    ghost gives = { λ s i. located i (s.at + 9 * i) (reading_of (slice_index_or s.records.now i [])) };
+    ghost gives = { record_gives };
 
     fn len(&self) -> usize {
         self.records.len()
@@ -116,13 +116,15 @@ impl Section for Rows<'_> {
 
     type Fault = BadRow;
 
+    ghost use Rattle.jobfile.specs.SectionsRead.{row_gives};
+
     ghost Meaning = { List Bool };
 
     ghost meaning = { places_of };
 
     ghost count = { λ s. length s.rows.now };
 
-    ghost gives = { λ s i. checked_row s.len.places i (s.at + 16 * i) (byte_places (slice_index_or s.rows.now i [])) };
+    ghost gives = { row_gives };
 
     fn len(&self) -> usize {
         self.rows.len()
