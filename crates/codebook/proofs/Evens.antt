@@ -1,10 +1,10 @@
 -- Even parity over one row after another.
-use Rattle.std.proofs.Common.{◌≡◌, ℕ, ◌+◌, ◌<◌, Bool, true, false, not, ◌&&◌, List, [], ◌∷◌, ◌++◌, length, get_or, take, Some, None, sym, refl, ap, ◌∙◌, arith}
-use Rattle.std.proofs.lemmas.List.{take_more}
-use Rattle.std.proofs.lemmas.Option.{slice_get-get_or}
-use Rattle.std.specs.List.{slice_get}
+use Rattle.std.proofs.Common.{◌≡◌, Bool, true, false, not, ◌&&◌, List, [], ◌∷◌, ◌++◌, map, sym, refl, ap, ◌∙◌}
+use Rattle.std.proofs.lemmas.List.{map-append}
 use Rattle.frames.specs.Halves.{is_odd}
 use Rattle.frames.specs.Places.{overlap}
+use Rattle.frames.specs.Words.{places}
+use Rattle.frames.specs.declared.words.Row.{Row}
 use Rattle.codebook.specs.Parity.{even_over}
 
 even_push : (rs : List (List Bool)) (r w : List Bool) → even_over (rs ++ r ∷ []) w ≡ (even_over rs w && not (is_odd (overlap w r)))
@@ -19,12 +19,5 @@ even_push (x ∷ rs) r w = ap (λ (b : Bool). not (is_odd (overlap w x)) && b) (
     go true b c = refl
     go false b c = refl
 
-pub even_more : (rs : List (List Bool)) (i : ℕ) (w : List Bool) → i < length rs → (even_over (take i rs) w && not (is_odd (overlap w (get_or rs i [])))) ≡ even_over (take (i + 1) rs) w
-even_more rs i w h = sym (ap (λ (xs : List (List Bool)). even_over xs w) (take_more rs i [] h) ∙ even_push (take i rs) (get_or rs i []) w)
-
--- a row that is there
-pub row_read : (rs : List (List Bool)) (i : ℕ) (r : List Bool) → i < length rs → Some r ≡ slice_get rs i → r ≡ get_or rs i []
-row_read rs i r h e = let p = slice_get-get_or rs i [] h in cc
-
-pub row_there : (rs : List (List Bool)) (i : ℕ) → i < length rs → None ≡ slice_get rs i → ⊥
-row_there rs i h e = let p = slice_get-get_or rs i [] h in let z : ◌≡◌ {A = ℕ} 0 1 = cc in omega arith
+pub even_more : (rows : List Row) (row : Row) (w : List Bool) → (even_over (map (λ (r : Row). places r.bits) rows) w && not (is_odd (overlap w (places row.bits)))) ≡ even_over (map (λ (r : Row). places r.bits) (rows ++ row ∷ [])) w
+even_more rows row w = sym (ap (λ (xs : List (List Bool)). even_over xs w) (map-append (λ (r : Row). places r.bits) rows (row ∷ [])) ∙ even_push (map (λ (r : Row). places r.bits) rows) (places row.bits) w)

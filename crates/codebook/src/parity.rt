@@ -1,19 +1,20 @@
 // The row test: even parity over each row.
-ghost use Rattle.std.specs.Prelude.{◌≡◌, ◌<◌, not, [], length, slice_index_or};
-ghost use Rattle.frames.specs.Halves.{is_odd};
-ghost use Rattle.frames.specs.Places.{overlap};
-ghost use Rattle.frames.specs.Words.{places};
+ghost use Rattle.std.specs.Prelude.{length};
 ghost use Rattle.frames.specs.Faults.{Answers};
-ghost use Rattle.frames.specs.Tables.{table_of, table_rows};
+ghost use Rattle.frames.specs.Tables.{table_of};
 ghost use Rattle.codebook.specs.Parity.{row_test_of, accepted_by_rows, even_over};
 ghost use Rattle.codebook.specs.Sizes.{tested_length};
 
 use crate::testing::Test;
 use frames::faults::Fault;
 use frames::halves::Halves;
+use frames::length::Length;
 use frames::tables::RowTable;
 use frames::words::Word;
 use std::alloc::Global;
+
+// The most rows of a test.
+const MOST: usize = 32;
 
 // At most 32 rows of one length: accepts a word with even parity over each.
 #[derive(Drop)]
@@ -21,26 +22,13 @@ pub struct RowTest {
     table: RowTable,
 }
 
-// Whether a word has even parity over row number `index`.
-fn is_even(table: &RowTable, index: usize, word: &Word) -> bool
-    requires { index < length (table_rows table.now) }
-    ensures { result ≡ not (is_odd (overlap (places word.now.bits) (slice_index_or (table_rows table.now) index []))) }
-{
-    let Some(row) = table.row(index) else {
-        unreachable()
-    };
-    !word.bits.parity(&row)
-}
-
 impl RowTest {
     // The test of these rows; of several bad ones the first is told.
     pub fn new(heap: Global, len: usize, rows: &[Halves]) -> Result<RowTest, Fault>
         ensures { Answers (λ t. table_of t.table) result (row_test_of len rows.now) }
     {
-        if len == 0 || len > 128 {
-            return Err(Fault::Length);
-        }
-        if rows.len() > 32 {
+        Length::try_from(len)?;
+        if rows.len() > MOST {
             return Err(Fault::TooManyRows);
         }
         let table = RowTable::new(heap, len, rows)?;
@@ -64,8 +52,8 @@ impl Test for RowTest {
             return false;
         }
         let mut even = true;
-        for index in 0..self.table.len() {
-            even &= is_even(&self.table, index, word);
+        for row in &self.table {
+            even &= !word.bits.parity(&row);
         }
         even
     }

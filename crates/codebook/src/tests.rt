@@ -19,10 +19,8 @@ fn five(number: u64) -> Halves {
 }
 
 fn word(number: u64) -> Result<Word, Fail> {
-    match Bits::new(5, five(number)) {
-        Ok(bits) => Ok(Word { bits }),
-        Err(_) => Err(Fail::new("refused")),
-    }
+    let bits = Bits::new(5, five(number))?;
+    Ok(Word { bits })
 }
 
 // Whether a number has an odd number of digits 1.
@@ -32,9 +30,7 @@ fn is_odd(number: u64) -> bool {
 
 #[test]
 fn rows_accept_even_words(rt: HostRuntime) -> Result<(), Fail> {
-    let Ok(test) = RowTest::new(rt.alloc(), 5, &[five(0b11000), five(0b00111)]) else {
-        return Err(Fail::new("refused"));
-    };
+    let test = RowTest::new(rt.alloc(), 5, &[five(0b11000), five(0b00111)])?;
     assert_eq!(rt; test.len(), 5);
     for number in 0..32 {
         let expected = !is_odd(number & 0b11000) && !is_odd(number & 0b00111);
@@ -45,9 +41,7 @@ fn rows_accept_even_words(rt: HostRuntime) -> Result<(), Fail> {
 
 #[test]
 fn fields_hold_their_range(rt: HostRuntime) -> Result<(), Fail> {
-    let Ok(test) = FieldTest::new(5, 1, 3, 2, 5) else {
-        return Err(Fail::new("refused"));
-    };
+    let test = FieldTest::new(5, 1, 3, 2, 5)?;
     for number in 0..32 {
         let held = (number >> 1) % 8;
         assert_eq!(rt; test.accepts(&word(number)?), held >= 2 && held <= 5);
@@ -57,12 +51,8 @@ fn fields_hold_their_range(rt: HostRuntime) -> Result<(), Fail> {
 
 #[test]
 fn other_lengths_are_not_accepted(rt: HostRuntime) -> Result<(), Fail> {
-    let Ok(four) = FieldTest::new(4, 0, 1, 0, 1) else {
-        return Err(Fail::new("refused"));
-    };
-    let Ok(all) = RowTest::new(rt.alloc(), 5, &[]) else {
-        return Err(Fail::new("refused"));
-    };
+    let four = FieldTest::new(4, 0, 1, 0, 1)?;
+    let all = RowTest::new(rt.alloc(), 5, &[])?;
     assert!(rt; !four.accepts(&word(0)?));
     assert!(rt; all.accepts(&word(0)?));
     let both = Both {
@@ -75,10 +65,7 @@ fn other_lengths_are_not_accepted(rt: HostRuntime) -> Result<(), Fail> {
 }
 
 fn row_fault(heap: Global, len: usize, rows: &[Halves]) -> Option<Fault> {
-    match RowTest::new(heap, len, rows) {
-        Ok(_) => None,
-        Err(fault) => Some(fault),
-    }
+    RowTest::new(heap, len, rows).err()
 }
 
 #[test]
@@ -96,10 +83,7 @@ fn rows_are_refused(rt: HostRuntime) {
 }
 
 fn field_fault(len: usize, first: usize, count: usize, low: u32, high: u32) -> Option<Fault> {
-    match FieldTest::new(len, first, count, low, high) {
-        Ok(_) => None,
-        Err(fault) => Some(fault),
-    }
+    FieldTest::new(len, first, count, low, high).err()
 }
 
 #[test]

@@ -138,6 +138,3 @@ pair_near x y r =
     let w = 256 * r.units / 2 ^ 149 in
     let e : weight_of (add binary32 x y) ≡ w = weight_of_lem (add binary32 x y) r.minus r.units r.is in
     subst (Near x y) (sym e) (omega arith, omega arith)
-
-pub from_test : (x y : Float) → true ≡ (is_level x && is_level y) → T (fits binary32 x) → T (fits binary32 y) → Rounded x y
-from_test x y e f g = let p = and_parts (is_level x) (is_level y) (sym e) in rounded x y (subst T (sym p.0) tt) (subst T (sym p.1) tt) f g

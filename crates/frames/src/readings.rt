@@ -1,8 +1,8 @@
 // Readings of the tape, and the cells that they give.
 ghost use Rattle.std.specs.Prelude.{◌≡◌, true, T, IfSome};
 ghost use Rattle.std.specs.Float.{binary32};
-ghost use Rattle.std.specs.Float.Ieee.{fits};
-ghost use Rattle.frames.specs.Cells.{is_level, is_good, is_sum, cell_at, cell_of};
+ghost use Rattle.std.specs.Float.Ieee.{add, fits};
+ghost use Rattle.frames.specs.Cells.{is_level, is_good, is_sum, cell_at, cell_for, cell_of};
 ghost use Rattle.frames.specs.Near.{NearFor};
 
 use std::num::saturating_f32_to_u16;
@@ -51,22 +51,10 @@ fn weigh(y: f32) -> Cell
 // Whether both levels of a pair are numbers of magnitude at most 127.
 fn are_levels(p: Levels) -> bool
     ensures value { result ≡ is_good (Reading.Pair p) }
-    ensures left_held { result ≡ true → T (fits binary32 p.left) }
-    ensures right_held { result ≡ true → T (fits binary32 p.right) }
+    ensures sum { T result → T (is_sum (add binary32 p.left p.right)) }
+    ensures near { T result → NearFor (Reading.Pair p) (cell_for (Reading.Pair p)).weight }
 {
     is_level(p.left) && is_level(p.right)
-}
-
-// The cell of a pair of levels, added with one rounding.
-fn weigh_pair(p: Levels) -> Option<Cell>
-    ensures value { result ≡ cell_of (Reading.Pair p) }
-    ensures near { IfSome result (λ c. NearFor (Reading.Pair p) c.weight) }
-{
-    if are_levels(p) {
-        Some(weigh(p.left + p.right))
-    } else {
-        None
-    }
 }
 
 impl Reading {
@@ -81,7 +69,7 @@ impl Reading {
         }
     }
 
-    // The cell of a good reading; none of any other.
+    // The cell of a good reading; none of any other. A pair is added with one rounding.
     pub fn cell(self) -> Option<Cell>
         ensures value { result ≡ cell_of self }
         ensures near { IfSome result (λ c. NearFor self c.weight) }
@@ -91,8 +79,8 @@ impl Reading {
                 bit: false,
                 weight: 0,
             }),
-            Reading::Single(y) => { if is_level(y) { Some(weigh(y)) } else { None } }
-            Reading::Pair(p) => weigh_pair(p),
+            Reading::Single(y) => is_level(y).then(|| weigh(y)),
+            Reading::Pair(p) => are_levels(p).then(|| weigh(p.left + p.right)),
         }
     }
 }

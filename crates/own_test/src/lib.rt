@@ -47,17 +47,13 @@ mod tests {
             first: (number % 8) << 61,
             second: 0,
         };
-        match Bits::new(3, halves) {
-            Ok(bits) => Ok(Word { bits }),
-            Err(_) => Err(Fail::new("refused")),
-        }
+        let bits = Bits::new(3, halves)?;
+        Ok(Word { bits })
     }
 
     #[test]
     fn an_own_test_stands_beside_ours(rt: HostRuntime) -> Result<(), Fail> {
-        let Ok(field) = FieldTest::new(3, 0, 2, 1, 2) else {
-            return Err(Fail::new("refused"));
-        };
+        let field = FieldTest::new(3, 0, 2, 1, 2)?;
         let both = Both {
             left: EvenMarks { len: 3 },
             right: field,

@@ -8,7 +8,7 @@ ghost use Rattle.weights.specs.WholeLemmas.{whole_laws};
 use weights::weight::Weight;
 
 // Flips only: how many flips there are. A surcharge costs nothing.
-#[derive(Clone, Copy, PartialEq, Eq, Debug)]
+#[derive(Clone, Copy, PartialEq, Eq, PartialOrd, Ord, Debug)]
 pub struct FlipsOnly {
     flips: u16,
 }
@@ -50,7 +50,7 @@ impl Weight for FlipsOnly {
     }
 
     fn at_most(self, other: FlipsOnly) -> bool {
-        self.flips <= other.flips
+        self <= other
     }
 }
 

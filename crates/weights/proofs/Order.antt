@@ -1,7 +1,5 @@
 -- The order of promised values, and of what lists of prices are worth.
-use Rattle.std.proofs.Common.{◌≡◌, ◌+◌, ◌≤◌, true, false, ◌⊎◌, List, ◌++◌, length, sym, ◌∙◌, inl, inr}
-use mathlib.Core.Bool.{false≢true}
-use Rattle.std.proofs.lemmas.Bool.{cases_Bool}
+use Rattle.std.proofs.Common.{◌≡◌, ◌+◌, ◌≤◌, true, false, ◌⊎◌, List, ◌++◌, length, arith}
 use Rattle.weights.specs.Grade.{Promised}
 use Rattle.weights.specs.Laws.{Laws}
 use Rattle.weights.specs.Model.{Model}
@@ -11,19 +9,19 @@ use Rattle.weights.proofs.Worth.{worth_addable, worth-++}
 
 module _ {V : Type 0} (m : Model V) (laws : Laws m) where
   pub at_most_refl : {a : V} → Promised m a → m.at_most a a ≡ true
-  at_most_refl {a} p = elim (cases_Bool (m.at_most a a)) [ inl h ↦ h | inr h ↦ laws.total p p h ]
+  at_most_refl p = grind (arith, laws.total p p)
 
   -- no heavier is lighter, or the same
   pub at_most_cases : {a b : V} → Promised m a → Promised m b → m.at_most a b ≡ true → (m.at_most b a ≡ false) ⊎ (a ≡ b)
-  at_most_cases {a} {b} p q h = elim (cases_Bool (m.at_most b a)) [ inl k ↦ inr (laws.same p q h k) | inr k ↦ inl k ]
+  at_most_cases p q h = grind (arith, laws.same p q h)
 
   -- lighter than b, which is no heavier than c
   pub less_then_at_most : {a b c : V} → Promised m a → Promised m b → Promised m c → m.at_most b a ≡ false → m.at_most b c ≡ true → m.at_most c a ≡ false
-  less_then_at_most {a} {b} {c} p q r h k = elim (cases_Bool (m.at_most c a)) [ inl l ↦ absurd (false≢true (sym h ∙ laws.transitive q r p k l)) | inr l ↦ l ]
+  less_then_at_most p q r h k = grind (arith, laws.transitive q r p k)
 
   -- no heavier than b, which is lighter than c
   pub at_most_then_less : {a b c : V} → Promised m a → Promised m b → Promised m c → m.at_most a b ≡ true → m.at_most c b ≡ false → m.at_most c a ≡ false
-  at_most_then_less {a} {b} {c} p q r h k = elim (cases_Bool (m.at_most c a)) [ inl l ↦ absurd (false≢true (sym k ∙ laws.transitive r p q l h)) | inr l ↦ l ]
+  at_most_then_less p q r h k = grind (arith, laws.transitive r p q)
 
   -- a common start keeps the lighter list lighter
   pub worth_less_before : (cs ps qs : List Price) → InRange cs → InRange ps → InRange qs → length cs + length ps ≤ 256 → length cs + length qs ≤ 256

@@ -1,6 +1,7 @@
 -- What lists of prices are worth.
-use Rattle.std.proofs.Common.{◌≡◌, ◌+◌, ◌<◌, ◌≤◌, List, [], ◌∷◌, ◌++◌, length, sym, ap, ◌∙◌, ap₂, one-add, arith}
+use Rattle.std.proofs.Common.{◌≡◌, ℕ, ◌+◌, ◌<◌, ◌≤◌, List, [], ◌∷◌, ◌++◌, length, get_or, take, sym, ap, ◌∙◌, ap₂, one-add, length-append, arith}
 use Rattle.std.proofs.ByRecursion.{All-append}
+use Rattle.std.proofs.lemmas.List.{take_more}
 use Rattle.weights.specs.Grade.{Graded, nothing, flipped, charged, sum, Promised, Addable}
 use Rattle.weights.specs.Kept.{Joins}
 use Rattle.weights.specs.Laws.{Laws}
@@ -12,6 +13,11 @@ use Rattle.weights.specs.declared.price.Price.TheVariants.{Flip, Surcharge}
 -- joined lists stay in range
 pub range-++ : (ps qs : List Price) → InRange ps → InRange qs → InRange (ps ++ qs)
 range-++ = All-append (λ p. asked p < 65536)
+
+-- the prices are in range, and v is what they are worth
+pub record Sums {V : Type 0} (m : Model V) (ps : List Price) (v : V) : Type 0 where
+  pub range : InRange ps
+  pub value : length ps ≤ 256 → v ≡ worth m ps
 
 module _ {V : Type 0} (m : Model V) where
   -- a price in range has grade 1
@@ -48,3 +54,14 @@ module _ {V : Type 0} (m : Model V) where
     pub worth_sum : (ps qs : List Price) {a b s : V} → InRange ps → InRange qs → length ps + length qs ≤ 256 → a ≡ worth m ps → b ≡ worth m qs
         → (Addable m a b → s ≡ m.plus a b) → s ≡ worth m (ps ++ qs)
     worth_sum ps qs h k l e f sums = sums (rw (e, f) (worth_addable ps qs h k l)) ∙ ap₂ m.plus e f ∙ sym (worth-++ ps qs h k l)
+
+    -- one price more, as at a step of a loop
+    pub sums_more : (ps : List Price) (i : ℕ) (d : Price) {a b s : V} → i < length ps → Sums m (take i ps) a → asked (get_or ps i d) < 65536 → b ≡ price_of m (get_or ps i d)
+        → (Addable m a b → s ≡ m.plus a b) → Sums m (take (i + 1) ps) s
+    sums_more ps i d within h low one sums =
+        let qs = take i ps in
+        let p = get_or ps i d in
+        rw (take_more ps i d within) (record {
+          range = range-++ qs (p ∷ []) h.range (low, tt);
+          value = λ short. let l = length-append qs (p ∷ []) in worth_sum qs (p ∷ []) h.range (low, tt) (omega arith) (h.value (omega arith)) (one ∙ sym (worth_one p low)) sums;
+        })

@@ -8,16 +8,7 @@ use Rattle.weights.specs.Whole.{whole}
 
 module _ (flip surcharge : ℕ → ℕ) where
   pub whole_laws : Laws (whole flip surcharge)
-  whole_laws = record {
-    associative = λ _ _ _ _. omega arith;
-    zero_left = λ _. omega arith;
-    zero_right = λ _. omega arith;
-    total = λ _ _ h. grind (arith, nat_tests);
-    transitive = λ _ _ _ h k. grind (arith, nat_tests);
-    same = λ _ _ h k. grind (arith, nat_tests);
-    less_left = λ _ _ h. grind (arith, nat_tests);
-    less_right = λ _ _ h. grind (arith, nat_tests);
-  }
+  whole_laws = grind (arith, nat_tests)
 
   -- prices of at most `most` each come to at most `most` times the grade
   pub whole_bound : (most : ℕ) → ((w : ℕ) → w < 65536 → flip w ≤ most) → ((p : ℕ) → p < 65536 → surcharge p ≤ most) → {g v : ℕ} → Graded (whole flip surcharge) g v → v ≤ most * g

@@ -7,7 +7,7 @@ ghost use Rattle.weights.specs.CountedLemmas.{counted_laws};
 use crate::weight::Weight;
 
 // Flips first: a count of flips, and a whole number that decides between equal counts.
-#[derive(Clone, Copy, PartialEq, Eq, Debug)]
+#[derive(Clone, Copy, PartialEq, Eq, PartialOrd, Ord, Debug)]
 pub struct FlipsFirst {
     flips: u32,
     number: u32,
@@ -67,10 +67,6 @@ impl Weight for FlipsFirst {
     }
 
     fn at_most(self, other: FlipsFirst) -> bool {
-        if self.flips == other.flips {
-            self.number <= other.number
-        } else {
-            self.flips < other.flips
-        }
+        self <= other
     }
 }

@@ -7,7 +7,7 @@ ghost use Rattle.weights.specs.WholeLemmas.{whole_laws};
 use crate::weight::Weight;
 
 // Level weight: a whole number, and each price is the number asked with.
-#[derive(Clone, Copy, PartialEq, Eq, Debug)]
+#[derive(Clone, Copy, PartialEq, Eq, PartialOrd, Ord, Debug)]
 pub struct Level {
     number: u32,
 }
@@ -41,9 +41,7 @@ impl Weight for Level {
     }
 
     fn surcharge(p: u16) -> Level {
-        Level {
-            number: u32::from(p),
-        }
+        Level::flip(p)
     }
 
     fn plus(self, other: Level) -> Level {
@@ -53,6 +51,6 @@ impl Weight for Level {
     }
 
     fn at_most(self, other: Level) -> bool {
-        self.number <= other.number
+        self <= other
     }
 }

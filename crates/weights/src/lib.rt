@@ -13,14 +13,17 @@ mod tests {
     use crate::price::{Price, total};
     use crate::weight::Weight;
 
+    // What the prices come to: the number of level weight, and both parts of flips first.
+    fn totals(prices: &[Price]) -> (u32, u32, u32) {
+        let level: Level = total(prices);
+        let both: FlipsFirst = total(prices);
+        (level.number(), both.flips(), both.number())
+    }
+
     #[test]
     fn prices_add_up(rt: HostRuntime) {
         let prices = [Price::Flip(7), Price::Surcharge(4), Price::Flip(2)];
-        let level: Level = total(&prices);
-        assert_eq!(rt; level.number(), 13);
-        let both: FlipsFirst = total(&prices);
-        assert_eq!(rt; both.flips(), 2);
-        assert_eq!(rt; both.number(), 13);
+        assert_eq!(rt; totals(&prices), (13, 2, 13));
     }
 
     #[test]
@@ -47,11 +50,7 @@ mod tests {
     #[test]
     fn largest_sums_are_exact(rt: HostRuntime) {
         let prices = [Price::Flip(65535); 256];
-        let level: Level = total(&prices);
-        assert_eq!(rt; level.number(), 16_776_960);
-        let both: FlipsFirst = total(&prices);
-        assert_eq!(rt; both.flips(), 256);
-        assert_eq!(rt; both.number(), 16_776_960);
+        assert_eq!(rt; totals(&prices), (16_776_960, 256, 16_776_960));
     }
 
     #[test]

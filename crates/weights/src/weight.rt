@@ -41,8 +41,6 @@ pub trait Weight: Copy {
 }
 
 // Every kind keeps the laws, and adds up lists of prices.
-pub fn laws_hold<W: Weight>() -> u8
+pub fn laws_hold<W: Weight>()
     ensures { Kept W.model }
-{
-    0
-}
+{}

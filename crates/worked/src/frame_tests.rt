@@ -54,9 +54,7 @@ fn a_frame_has_its_hard_word_and_weights(rt: HostRuntime) -> Result<(), Fail> {
     for (reading, level) in readings.iter_mut().zip(levels.iter()) {
         *reading = Reading::Single(*level);
     }
-    let Ok(frame) = Frame::new(rt.alloc(), &readings) else {
-        return Err(Fail::new("refused"));
-    };
+    let frame = Frame::new(rt.alloc(), &readings)?;
     let hard = frame.hard.bits.to_string(rt.alloc())?;
     assert!(rt; hard.as_str() == "0010000");
     assert!(rt; frame.weights.as_slice() == [256, 256, 128, 256, 64, 256, 256].as_slice());

@@ -4,11 +4,9 @@
 ghost use Rattle.worked.specs.Cells.{WorkedCells};
 
 // The worked cells follow from the definition of a cell alone.
-pub fn cells_stand() -> u8
+pub fn cells_stand()
     ensures { WorkedCells }
-{
-    0
-}
+{}
 
 #[cfg(test)]
 mod cell_tests;

@@ -2,6 +2,7 @@
 use frames::bits::Bits;
 use frames::faults::Fault;
 use frames::halves::Halves;
+use frames::length::Length;
 use frames::tables::RowTable;
 use frames::words::{Pattern, Row, Word};
 use std::test::Fail;
@@ -12,10 +13,7 @@ fn five(number: u64) -> Result<Bits, Fail> {
         first: (number % 32) << 59,
         second: 0,
     };
-    match Bits::new(5, halves) {
-        Ok(bits) => Ok(bits),
-        Err(_) => Err(Fail::new("refused")),
-    }
+    Ok(Bits::new(5, halves)?)
 }
 
 // Place `place` of those five.
@@ -36,6 +34,20 @@ fn words_of_five_places(rt: HostRuntime) -> Result<(), Fail> {
         }
         assert_eq!(rt; bits.bit(5), None);
         assert_eq!(rt; bits.marks(), marks);
+    }
+    Ok(())
+}
+
+#[test]
+fn places_come_in_order(rt: HostRuntime) -> Result<(), Fail> {
+    for a in 0..32 {
+        let bits = five(a)?;
+        let mut number = 0u64;
+        for bit in &bits {
+            number = number.wrapping_mul(2).wrapping_add(u64::from(bit));
+        }
+        assert_eq!(rt; number, a);
+        assert_eq!(rt; bits.iter().skip(5).next(), None);
     }
     Ok(())
 }
@@ -76,10 +88,7 @@ const MIDDLE: Halves = Halves {
 };
 
 fn fault_of(len: usize, halves: Halves) -> Option<Fault> {
-    match Bits::new(len, halves) {
-        Ok(_) => None,
-        Err(fault) => Some(fault),
-    }
+    Bits::new(len, halves).err()
 }
 
 #[test]
@@ -99,11 +108,19 @@ fn marks_end_at_the_length(rt: HostRuntime) {
 }
 
 #[test]
+fn lengths_are_1_to_128(rt: HostRuntime) -> Result<(), Fail> {
+    for places in [1usize, 64, 128] {
+        assert_eq!(rt; usize::from(Length::try_from(places)?), places);
+    }
+    assert_eq!(rt; Length::try_from(0).err(), Some(Fault::Length));
+    assert_eq!(rt; Length::try_from(129).err(), Some(Fault::Length));
+    Ok(())
+}
+
+#[test]
 fn lengths_that_differ(rt: HostRuntime) -> Result<(), Fail> {
     let short = five(4)?;
-    let Ok(long) = Bits::new(65, MIDDLE) else {
-        return Err(Fail::new("refused"));
-    };
+    let long = Bits::new(65, MIDDLE)?;
     let word = Word { bits: long };
     assert_eq!(rt; word.flipped(&Pattern { bits: short }), None);
     assert_eq!(rt; word.between(&Word { bits: short }), None);
@@ -120,18 +137,18 @@ fn the_first_bad_row_is_told(rt: HostRuntime) -> Result<(), Fail> {
         second: 0,
     };
     let heap = rt.alloc();
-    let Ok(table) = RowTable::new(heap, 65, &[none, MIDDLE]) else {
-        return Err(Fail::new("refused"));
-    };
+    let table = RowTable::new(heap, 65, &[none, MIDDLE])?;
     assert_eq!(rt; table.len(), 2);
     assert_eq!(rt; table.row_len(), 65);
     assert!(rt; table.row(1).is_some());
     assert!(rt; table.row(2).is_none());
-    match RowTable::new(heap, 64, &[none, MIDDLE, MIDDLE]) {
-        Ok(_) => Err(Fail::new("a row is too long")),
-        Err(fault) => {
-            assert_eq!(rt; fault, Fault::RowMark(1));
-            Ok(())
-        },
+    let mut marks = 0u32;
+    for row in &table {
+        marks = marks.wrapping_mul(3).wrapping_add(row.bits.marks());
     }
+    assert_eq!(rt; marks, 2);
+    assert_eq!(rt; table.iter().count(), 2);
+    let refused = RowTable::new(heap, 64, &[none, MIDDLE, MIDDLE]).err();
+    assert_eq!(rt; refused, Some(Fault::RowMark(1)));
+    Ok(())
 }

@@ -9,6 +9,7 @@ ghost use Rattle.codebook.specs.Sizes.{tested_length};
 use crate::fields::FieldTest;
 use crate::testing::Test;
 use frames::faults::Fault;
+use frames::length::Length;
 use frames::words::Word;
 
 // Whether `count` places can hold a number.
@@ -30,9 +31,7 @@ impl FieldTest {
     ) -> Result<FieldTest, Fault>
         ensures { answer range_of result ≡ Some (field_test_of record { long = len; from = first; count = count; least = low; most = high }) }
     {
-        if len == 0 || len > 128 {
-            return Err(Fault::Length);
-        }
+        let places = Length::try_from(len)?;
         if count == 0 || count > 16 || first > len || count > len - first {
             return Err(Fault::Field);
         }
@@ -40,7 +39,7 @@ impl FieldTest {
             return Err(Fault::Field);
         }
         Ok(FieldTest {
-            len,
+            len: places,
             first,
             count,
             low,
@@ -50,12 +49,11 @@ impl FieldTest {
 
     // The number that the field of a word holds.
     fn number(&self, word: &Word) -> u32
-        requires { length (places word.now.bits) ≡ self.now.len }
+        requires { length (places word.now.bits) ≡ self.now.len.places }
         ensures { result ≡ field_number self.now.first self.now.count (places word.now.bits) }
     {
         let mut number = 0;
-        for place in self.first..self.first + self.count {
-            let bit = word.bits.bit(place).unwrap_or(false);
+        for bit in word.bits.iter().skip(self.first).take(self.count) {
             number = 2 * number + u32::from(bit);
         }
         number
@@ -70,11 +68,11 @@ impl Test for FieldTest {
     ghost sized = { λ t w e. tested_length (length w) (range_of t).long _ e };
 
     fn len(&self) -> usize {
-        self.len
+        usize::from(self.len)
     }
 
     fn accepts(&self, word: &Word) -> bool {
-        if word.bits.len() != self.len {
+        if word.bits.len() != usize::from(self.len) {
             return false;
         }
         let number = self.number(word);

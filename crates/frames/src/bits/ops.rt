@@ -57,12 +57,14 @@ impl Bits {
         ensures { result ≡ slice_get (places self.now) place }
     {
         if place >= usize::from(self.len) {
-            None
-        } else if place < 64 {
-            Some((self.halves.first >> (63 - place)) % 2 == 1)
-        } else {
-            Some((self.halves.second >> (127 - place)) % 2 == 1)
+            return None;
         }
+        let shifted = if place < 64 {
+            self.halves.first >> (63 - place)
+        } else {
+            self.halves.second >> (127 - place)
+        };
+        Some(shifted % 2 == 1)
     }
 
     // Where the two differ; none where their lengths do.

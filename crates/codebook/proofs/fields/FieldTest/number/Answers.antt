@@ -1,25 +1,34 @@
-use Rattle.std.proofs.Common.{◌≡◌, ℕ, ◌+◌, ◌-◌, ◌*◌, ◌^◌, ◌<◌, Bool, false, length, get_or, Option, unwrap_or, sym, ap, ◌∙◌, subst, arith}
+use Rattle.std.proofs.Common.{◌≡◌, ℕ, ◌+◌, ◌*◌, ◌^◌, ◌<◌, Bool, length, take, drop, sym, ap, ◌∙◌, subst, arith}
+use Rattle.std.proofs.lemmas.List.{length_push, map-id}
+use Rattle.std.proofs.lemmas.Iterator.{YieldsList-from_take}
+use Rattle.std.proofs.lemmas.Iterator.Adapters.{YieldsList-from_skip}
+use Rattle.std.proofs.lemmas.Iterator.Consumers.{YieldsList-at, YieldsList-from_first, YieldsList-end}
 use Rattle.frames.specs.Words.{places}
-use Rattle.frames.proofs.BitText.{get_d_nth}
-use Rattle.frames.proofs.Packing.{bit_le}
-use Rattle.codebook.specs.Fields.{field_number}
-use Rattle.codebook.proofs.Numbers.{number_more, room_more, byte_is}
+use Rattle.frames.specs.declared.bits.iter.Iter.{Iter}
+use Rattle.codebook.specs.Fields.{number_on}
+use Rattle.codebook.proofs.Numbers.{number_push, room_more, room_fits, bit_is}
 use Rattle.codebook.proofs.fields.FieldTest.number.Goals as goal
 
-pub loop-place-preserved : goal.loop-place-preserved
-loop-place-preserved c =
-    let first = c.args.self.now.first in
-    let w = places c.args.word.now.bits in
-    let k = c.loop-place.place - first in
-    let e : k + 1 ≡ c.loop-place.place + 1 - first = omega arith in
-    let p : first + k ≡ c.loop-place.place = omega arith in
-    let h : first + k < length w = omega arith in
-    let b : c.unwrap_or-bit.result ≡ get_or w (first + k) false =
-    c.unwrap_or-bit.ensures ∙ ap (λ (o : Option Bool). unwrap_or o false) c.bit.ensures ∙ sym (get_d_nth w c.loop-place.place) ∙ ap (λ (i : ℕ). get_or w i false) (sym p) in
-    let v = byte_is c.unwrap_or-bit.result c.from.result c.from.ensures in (
-      subst (λ (i : ℕ). 2 * c.loop-place.number + c.from.result < 2 ^ i) e (room_more c.loop-place.number c.from.result k c.loop-place.invariant.0 (bit_le c.unwrap_or-bit.result c.from.result v)),
-      ap (λ (v : ℕ). 2 * v + c.from.result) c.loop-place.invariant.1
-          ∙ ap (λ (x : ℕ). 2 * field_number first k w + x) v
-          ∙ number_more w first k c.unwrap_or-bit.result h b
-          ∙ ap (λ (i : ℕ). field_number first i w) e,
+pub loop-bit-preserved : goal.loop-bit-preserved
+loop-bit-preserved c =
+    let b = bit_is c.in-Some.bit c.from.result c.from.ensures in
+    let l = length_push c.loop-bit.yielded c.in-Some.bit in (
+      subst (λ (i : ℕ). 2 * c.loop-bit.number + c.from.result < 2 ^ i) (sym l) (room_more c.loop-bit.number c.from.result (length c.loop-bit.yielded) c.loop-bit.invariant.0 b.1),
+      ap (λ (v : ℕ). 2 * v + c.from.result) c.loop-bit.invariant.1 ∙ number_push c.loop-bit.yielded c.in-Some.bit c.from.result b.0,
+      omega (arith, l, c.in-Some.ensures.steps.1),
     )
+
+pub overflow_mul-number : goal.overflow_mul-number
+overflow_mul-number c = let p = room_fits c.loop-bit.number 0 (length c.loop-bit.yielded) c.loop-bit.invariant.0 (omega arith) (omega (arith, c.in-Some.ensures.steps.1)) in omega arith
+
+pub overflow_add-number : goal.overflow_add-number
+overflow_add-number c = let p = room_fits c.loop-bit.number c.from.result (length c.loop-bit.yielded) c.loop-bit.invariant.0 (bit_is c.in-Some.bit c.from.result c.from.ensures).1 (omega (arith, c.in-Some.ensures.steps.1)) in omega arith
+
+pub returns : goal.returns
+returns c =
+    let s = c.args.self.now in
+    let ps = places c.args.word.now.bits in
+    let left = λ (i : Iter). drop i.place (places i.bits) in
+    let road = YieldsList-from_take s.count (YieldsList-at c.take-bit-items.ensures.source (YieldsList-from_skip s.first (YieldsList-at c.skip.ensures.source (YieldsList-from_first (λ (b : Bool). b) left ps c.iter.ensures)) c.skip.ensures.count)) c.take-bit-items.ensures.count in
+    let all = YieldsList-end (YieldsList-at c.into_iter-bit-iterator.ensures.into_iter_gives road) c.loop-bit.yielded _ c.loop-bit.yielded_by _ c.next.new.self c.in-None.is c.next.ensures.steps in
+    c.loop-bit.invariant.1 ∙ ap (number_on 0) (sym (map-id c.loop-bit.yielded) ∙ all.0)

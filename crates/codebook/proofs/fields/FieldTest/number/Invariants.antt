@@ -1,7 +1,6 @@
-use Rattle.std.proofs.Common.{◌≡◌, ◌-◌, ◌^◌, ◌<◌}
-use Rattle.frames.specs.Words.{places}
-use Rattle.codebook.specs.Fields.{field_number}
+use Rattle.std.proofs.Common.{◌≡◌, ◌+◌, ◌^◌, ◌<◌, ◌≤◌, length}
+use Rattle.codebook.specs.Fields.{number_on}
 use Rattle.codebook.proofs.fields.FieldTest.number.Given as goal
 
-abbrev pub invariant-loop-place : goal.invariant-loop-place
-invariant-loop-place l = (l.number < 2 ^ (l.place - l.self.first)) × (l.number ≡ field_number l.self.first (l.place - l.self.first) (places l.word.bits))
+abbrev pub invariant-loop-bit : goal.invariant-loop-bit
+invariant-loop-bit l = (l.number < 2 ^ length l.yielded) × (l.number ≡ number_on 0 l.yielded) × (length l.yielded + l.bit-iterator.n ≤ 16)
