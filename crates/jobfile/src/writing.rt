@@ -81,7 +81,8 @@ fn put(out: &mut [u8], at: usize, piece: &[u8])
     out[at..at + piece.len()].copy_from_slice(piece);
 }
 
-// Puts entries one right after another, the first at a place.
+// Puts entries one right after another, the first at a place. By index: no clause says what a slice ends as after
+// `chunks_exact_mut`, and a loop over `split_first_chunk_mut`, which was tried, ends with nothing proved of `out`.
 fn put_all<T: Entry<N>, const N: usize>(out: &mut [u8], at: usize, entries: &[T])
     requires space { at + N * length entries.now ≤ length out.old }
     requires held { All T.is_held entries.now }
