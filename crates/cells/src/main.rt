@@ -7,14 +7,10 @@ use std::io::Read;
 // One byte more than 128 records have, so that too many are seen to be too many.
 const MOST: u64 = 1153;
 
-fn run(rt: &HostRuntime) -> anyhow::Result<()> {
+fn main(rt: HostRuntime) -> anyhow::Result<()> {
     let mut bytes = Vec::new(rt.alloc());
     rt.stdin().take(MOST).read_to_end(&mut bytes)?;
-    let text = lines(rt.alloc(), bytes.as_slice())?;
+    let text = lines(rt.alloc(), &bytes)?;
     rt.print(text)?;
     Ok(())
-}
-
-fn main(rt: HostRuntime) -> anyhow::Result<()> {
-    run(&rt)
 }

@@ -1,31 +1,27 @@
 -- Writing what was read gives the bytes back.
-use Rattle.std.proofs.Common.{◌≡◌, ℕ, ◌+◌, ◌*◌, ◌/◌, ◌%◌, ◌^◌, ◌<◌, Bool, true, not, T, eqb, List, [], ◌∷◌, ◌++◌, length, get_or, IfOk, Ok, Err, Result, sym, ◌∙◌, subst, ap₂, arith, rules}
+use Rattle.std.proofs.Common.{◌≡◌, ℕ, zero, suc, ◌+◌, ◌*◌, ◌^◌, ◌<◌, Bool, true, not, T, eqb, List, [], ◌∷◌, ◌++◌, length, get_or, IfOk, Ok, Err, Result, sym, refl, ◌∙◌, subst, ap₂, arith, lit<}
 use lib.Ieee.{Float, nan, inf, fin, binary32, is_nan, of_bits, to_bits}
 use lib.Ieee.Bits.{to_bits-of_bits}
-use Rattle.std.proofs.lemmas.List.{same_lists, places}
+use Rattle.std.proofs.lemmas.Nat.{le_bytes_4}
 use Rattle.std.proofs.lemmas.Bool.{and_parts, eqb-true, cond_both}
 use Rattle.frames.specs.Cells.{is_level, is_good}
 use Rattle.frames.specs.declared.readings.Reading.{Reading}
 use Rattle.frames.specs.declared.readings.Reading.TheVariants.{Dropout, Single, Pair}
+use Rattle.jobfile.proofs.Listed.{listed_whole}
 use Rattle.jobfile.specs.declared.records.ReadingFault.{ReadingFault}
 use Rattle.jobfile.specs.declared.records.ReadingFault.TheVariants.{Level}
 use Rattle.jobfile.specs.Records.{pattern, four_bytes, record_of_parts, record_of, checked_by, reading_of_parts, reading_of}
 
 -- ---- four bytes and their number
 pub four_is : (a b c d : ℕ) → a < 256 → b < 256 → c < 256 → d < 256 → four_bytes (a + b * 256 + c * 65536 + d * 16777216) ≡ a ∷ b ∷ c ∷ d ∷ []
-four_is a b c d ha hb hc hd =
-    let n = a + b * 256 + c * 65536 + d * 16777216 in
-    let p : n % 256 ≡ a = omega arith in
-    let q : n / 256 ≡ b + c * 256 + d * 65536 = omega arith in
-    let q' : n / 256 % 256 ≡ b = rw q (omega arith) in
-    let r : n / 65536 ≡ c + d * 256 = omega arith in
-    let r' : n / 65536 % 256 ≡ c = rw r (omega arith) in
-    let s : n / 16777216 ≡ d = omega arith in
-    let s' : n / 16777216 % 256 ≡ d = rw s (omega arith) in
-    cc
-
-nine : (xs : List ℕ) → length xs ≡ 9 → get_or xs 0 0 ∷ get_or xs 1 0 ∷ get_or xs 2 0 ∷ get_or xs 3 0 ∷ get_or xs 4 0 ∷ get_or xs 5 0 ∷ get_or xs 6 0 ∷ get_or xs 7 0 ∷ get_or xs 8 0 ∷ [] ≡ xs
-nine xs l = same_lists _ _ (search (rules, places)) (λ k d h. grind (arith, places))
+four_is a b c d ha hb hc hd = le_bytes_4 (a ∷ b ∷ c ∷ d ∷ []) (a + b * 256 + c * 65536 + d * 16777216) refl fits refl
+  where
+    fits : (i : ℕ) → get_or (a ∷ b ∷ c ∷ d ∷ []) i 0 < 256
+    fits zero = ha
+    fits (suc zero) = hb
+    fits (suc (suc zero)) = hc
+    fits (suc (suc (suc zero))) = hd
+    fits (suc (suc (suc (suc i)))) = lit< tt
 
 -- ---- the pattern of a level
 number : (y : Float) → is_level y ≡ true → T (not (is_nan y))
@@ -60,7 +56,7 @@ record_is : (xs : List ℕ) → length xs ≡ 9 → ((i : ℕ) → get_or xs i 0
 record_is xs l h =
     let a = four_is _ _ _ _ (h 1) (h 2) (h 3) (h 4) in
     let b = four_is _ _ _ _ (h 5) (h 6) (h 7) (h 8) in
-    ap₂ (λ (ys zs : List ℕ). get_or xs 0 0 ∷ ys ++ zs) a b ∙ nine xs l
+    ap₂ (λ (ys zs : List ℕ). get_or xs 0 0 ∷ ys ++ zs) a b ∙ listed_whole 9 xs l
 
 pub record_back : (xs : List ℕ) (r : Result Reading ReadingFault) → r ≡ reading_of xs → length xs ≡ 9 → ((i : ℕ) → get_or xs i 0 < 256) → IfOk r (λ x. record_of x ≡ xs)
 record_back xs r e l h = rw e (subst (λ (ys : List ℕ). IfOk (reading_of xs) (λ x. record_of x ≡ ys)) (record_is xs l h) (parts_back (get_or xs 0 0) (pattern xs 1) (pattern xs 5) (omega (arith, h 1, h 2, h 3, h 4)) (omega (arith, h 5, h 6, h 7, h 8))))

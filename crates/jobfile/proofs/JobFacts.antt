@@ -5,6 +5,8 @@ use Rattle.std.specs.Option.{option_map}
 use Rattle.std.specs.List.{flat_map}
 use Rattle.frames.specs.Cells.{is_good}
 use Rattle.frames.specs.Firsts.{first_failing}
+use Rattle.frames.specs.declared.readings.Reading.{Reading}
+use Rattle.jobfile.specs.declared.records.ReadingFault.TheVariants.{Level}
 use Rattle.jobfile.specs.Jobs.{Contents, contents}
 use Rattle.jobfile.specs.Records.{record_of}
 use Rattle.jobfile.specs.RowPlaces.{packed, places_of, ends_before}
@@ -43,16 +45,16 @@ pub record Holdable (c : Contents) : Type 0 where
 
 none_mapped : {X Y : Type 0} (f : X → Y) (o : Option X) → option_map f o ≡ None → o ≡ None
 none_mapped f None e = refl
-none_mapped f (Some x) e = let z : ◌≡◌ {A = ℕ} 0 1 = cc in absurd (omega arith)
+none_mapped f (Some x) e = absurd (cc)
 
 none_sections : (o : Option BadReading) (q : Option BadRow) → section_fault_of o q ≡ None → (o ≡ None) × (q ≡ None)
 none_sections None None e = (refl, refl)
-none_sections None (Some x) e = let z : ◌≡◌ {A = ℕ} 0 1 = cc in absurd (omega arith)
-none_sections (Some x) q e = let z : ◌≡◌ {A = ℕ} 0 1 = cc in absurd (omega arith)
+none_sections None (Some x) e = absurd (cc)
+none_sections (Some x) q e = absurd (cc)
 
 none_numbers : (b : Bool) (o : Option FileFault) → cond b o (Some Numbers) ≡ None → (b ≡ true) × (o ≡ None)
 none_numbers true o e = (refl, e)
-none_numbers false o e = let z : ◌≡◌ {A = ℕ} 0 1 = cc in absurd (omega arith)
+none_numbers false o e = absurd (cc)
 
 pub holdable : (c : Contents) → job_fault c ≡ None → Holdable c
 holdable c e =
@@ -96,3 +98,15 @@ file_put c at end out o₁ o₂ o₃ a b p q r =
     ∙ pasted_more 0 (R ++ W) T out (omega arith)
     ∙ ap (λ (xs : List ℕ). pasted 0 xs out) (append_assoc R W T)
     ∙ ap (λ (k : ℕ). job_bytes c ++ drop k out) (zero-add (length (job_bytes c)))
+
+-- ---- the first fault of two sections, by the first reading and the first row at fault
+
+module _ (heard : List Reading) (n : ℕ) (marked : List (List Bool)) where
+  abbrev pub told : Option ℕ → Option ℕ → Option FileFault
+  told o q = section_fault_of (option_map (λ k. record { cause = Level; index = k; byte = 9 * k }) o) (option_map (λ k. record { index = k; byte = 9 * n + 16 * k }) q)
+
+  pub reading_told : (k : ℕ) → first_failing is_good heard ≡ Some k → told (Some k) None ≡ section_fault_of (bad_reading_of heard) (bad_row_of n marked)
+  reading_told k e = sym (ap (λ (o : Option ℕ). told o (first_failing (ends_before n) marked)) e)
+
+  pub rows_told : (q : Option ℕ) → first_failing is_good heard ≡ None → first_failing (ends_before n) marked ≡ q → told None q ≡ section_fault_of (bad_reading_of heard) (bad_row_of n marked)
+  rows_told q e f = sym (ap₂ told e f)

@@ -1,8 +1,9 @@
+pub mod Listed
 pub mod Backs
 pub mod LowDigits
 pub mod RowBytes
 pub mod Gathering
-pub mod Sections
+pub mod SectionFacts
 pub mod TrailerFacts
 pub mod Laying
 pub mod FirstBad

@@ -6,6 +6,7 @@ use Rattle.std.proofs.lemmas.List.{append_assoc, append-nil, take_at, drop_at, t
 use Rattle.std.proofs.lemmas.Bool.{ne_eqb}
 use Rattle.std.proofs.lemmas.Bool.Decides.{nat_tests}
 use Rattle.std.specs.Int.{reverse_bits_onto}
+use Rattle.frames.proofs.Digits.{length_digits}
 use Rattle.frames.specs.Halves.{is_odd, digits_of, unmarked}
 use Rattle.frames.specs.Places.{marks}
 use Rattle.jobfile.specs.RowPlaces.{low_digits, number_of, byte_places, packed, half_places, ends_before}
@@ -162,10 +163,6 @@ packed_low (suc k) v =
     ∙ ap₂ (λ (x : ℕ) (xs : List ℕ). x ∷ xs) (number_low 8 (v % 256) l) (packed_low k (v / 256))
 
 -- ---- marks past a place
-
-pub length_digits : (n v : ℕ) → length (digits_of n v) ≡ n
-length_digits zero v = refl
-length_digits (suc n) v = ap suc (length_digits n v)
 
 pub digits_drop : (n m v : ℕ) → drop n (digits_of (n + m) v) ≡ digits_of m v
 digits_drop zero m v = ap (λ (i : ℕ). digits_of i v) (zero-add m)

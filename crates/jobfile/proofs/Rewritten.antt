@@ -4,6 +4,7 @@ use Rattle.std.proofs.lemmas.List.{append-nil, take-append-drop, drop-drop, leng
 use Rattle.std.proofs.lemmas.Result.{IfOk-at_ok}
 use Rattle.std.proofs.lemmas.Bool.{and_parts, eqb-true, leb-true}
 use Rattle.std.specs.List.{flat_map}
+use Rattle.std.proofs.lemmas.Grind.{flat_map-append}
 use Rattle.frames.specs.declared.readings.Reading.{Reading}
 use Rattle.jobfile.specs.Files.{located, reading_at, row_at, readings_in, rows_in, job_of_sections, job_of_trailer, job_of, Answers}
 use Rattle.jobfile.specs.Gathered.{with_next, gathered}
@@ -20,15 +21,15 @@ use Rattle.jobfile.specs.declared.records.ReadingFault.{ReadingFault}
 use Rattle.jobfile.specs.declared.trailers.Trailer.{Trailer}
 use Rattle.jobfile.proofs.Backs.{record_back}
 use Rattle.jobfile.proofs.LowDigits.{packed_back}
-use Rattle.jobfile.proofs.RowBytes.{part_fits, part_length, part_append, joined_append}
+use Rattle.jobfile.proofs.RowBytes.{part_fits, part_length, part_append}
 use Rattle.jobfile.proofs.TrailerBytes.{trailer_past, kind_past, mark_past, bytes_back}
 use Rattle.jobfile.proofs.TrailerFacts.{good_trailer}
 
 -- ---- a section, piece by piece
 
 ok_parts : {X E : Type 0} (a : Result (List X) E) (b : Result X E) (xs : List X) → with_next a b ≡ Ok xs → (ys : List X) × (y : X) × (a ≡ Ok ys) × (b ≡ Ok y) × (xs ≡ ys ++ y ∷ [])
-ok_parts (Err e) b xs h = let z : ◌≡◌ {A = ℕ} 0 1 = cc in absurd (omega arith)
-ok_parts (Ok ys) (Err e) xs h = let z : ◌≡◌ {A = ℕ} 0 1 = cc in absurd (omega arith)
+ok_parts (Err e) b xs h = absurd (cc)
+ok_parts (Ok ys) (Err e) xs h = absurd (cc)
 ok_parts (Ok ys) (Ok y) xs h = (ys, y, refl, refl, cc)
 
 module _ {X E : Type 0} (f : ℕ → Result X E) (g : X → List ℕ) (size at : ℕ) (bs : List ℕ) (back : (k : ℕ) (x : X) → at + size * suc k ≤ length bs → f k ≡ Ok x → g x ≡ take size (drop (at + size * k) bs)) where
@@ -41,7 +42,7 @@ module _ {X E : Type 0} (f : ℕ → Result X E) (g : X → List ℕ) (size at :
       let m : size * suc i ≡ size * i + size = mul-suc size i in
       let ih = section_back i p.0 (omega arith) p.2 in (
         ap (flat_map g) p.4
-            ∙ joined_append g p.0 (p.1 ∷ [])
+            ∙ flat_map-append g p.0 (p.1 ∷ [])
             ∙ ap₂ (λ (us vs : List ℕ). us ++ vs) ih.0 (append-nil (g p.1) ∙ back i p.1 l p.3)
             ∙ sym (part_append (size * i) size at bs)
             ∙ ap (λ (k : ℕ). take k (drop at bs)) (sym m),
@@ -51,7 +52,7 @@ module _ {X E : Type 0} (f : ℕ → Result X E) (g : X → List ℕ) (size at :
 module _ (bs : List ℕ) (fits : (i : ℕ) → get_or bs i 0 < 256) where
   not_located : (k p : ℕ) (r : Result Reading ReadingFault) (x : Reading) → located k p r ≡ Ok x → r ≡ Ok x
   not_located k p (Ok y) x e = cc
-  not_located k p (Err d) x e = let z : ◌≡◌ {A = ℕ} 0 1 = cc in absurd (omega arith)
+  not_located k p (Err d) x e = absurd (cc)
 
   reading_bytes : (at k : ℕ) (x : Reading) → at + 9 * suc k ≤ length bs → reading_at bs at k ≡ Ok x → record_of x ≡ take 9 (drop (at + 9 * k) bs)
   unfolding reading_at
@@ -61,7 +62,7 @@ module _ (bs : List ℕ) (fits : (i : ℕ) → get_or bs i 0 < 256) where
 
   not_bad : (n k p : ℕ) (b : Bool) (ms xs : List Bool) → ◌≡◌ {A = Result (List Bool) BadRow} (cond b (Ok ms) (Err record { index = k; byte = p })) (Ok xs) → xs ≡ ms
   not_bad n k p true ms xs e = cc
-  not_bad n k p false ms xs e = let z : ◌≡◌ {A = ℕ} 0 1 = cc in absurd (omega arith)
+  not_bad n k p false ms xs e = absurd (cc)
 
   row_bytes : (n at k : ℕ) (ms : List Bool) → at + 16 * suc k ≤ length bs → row_at n bs at k ≡ Ok ms → packed 16 ms ≡ take 16 (drop (at + 16 * k) bs)
   unfolding row_at
@@ -76,20 +77,18 @@ module _ (bs : List ℕ) (fits : (i : ℕ) → get_or bs i 0 < 256) where
 
   trailer_part : (r : Result Trailer FileFault) (c : Contents) → job_of_trailer bs r ≡ Ok c → (t : Trailer) × (Ok t ≡ r) × (job_of_sections t (readings_in bs t) (rows_in bs t) ≡ Ok c)
   trailer_part (Ok t) c e = (t, refl, e)
-  trailer_part (Err d) c e = let z : ◌≡◌ {A = ℕ} 0 1 = cc in absurd (omega arith)
+  trailer_part (Err d) c e = absurd (cc)
 
   section_parts : (t : Trailer) (a : Result (List Reading) BadReading) (b : Result (List (List Bool)) BadRow) (c : Contents) → job_of_sections t a b ≡ Ok c → (a ≡ Ok c.readings) × (b ≡ Ok c.rows) × (c ≡ record { readings = c.readings; rows = c.rows; guessed = t.guessed; limit = t.limit; kind = t.kind })
-  section_parts t (Err d) b c e = let z : ◌≡◌ {A = ℕ} 0 1 = cc in absurd (omega arith)
-  section_parts t (Ok rs) (Err d) c e = let z : ◌≡◌ {A = ℕ} 0 1 = cc in absurd (omega arith)
+  section_parts t (Err d) b c e = absurd (cc)
+  section_parts t (Ok rs) (Err d) c e = absurd (cc)
   section_parts t (Ok rs) (Ok ms) c e =
       let C : Contents = record { readings = rs; rows = ms; guessed = t.guessed; limit = t.limit; kind = t.kind } in
       let q : C ≡ c = cc in
       (ap (λ (x : Contents). Ok x.readings) q, ap (λ (x : Contents). Ok x.rows) q, sym q ∙ ap (λ (x : Contents). record { readings = x.readings; rows = x.rows; guessed = t.guessed; limit = t.limit; kind = t.kind }) q)
 
   same_trailer : (t : Trailer) (n k a b : ℕ) → n ≡ t.n → k ≡ t.rows → a ≡ t.readings_at → b ≡ t.rows_at → ◌≡◌ {A = Trailer} record { n = n; rows = k; guessed = t.guessed; readings_at = a; rows_at = b; limit = t.limit; kind = t.kind } t
-  same_trailer t n k a b e₁ e₂ e₃ e₄ =
-      ap₂ {C = Trailer} (λ (x y : ℕ). record { n = x; rows = y; guessed = t.guessed; readings_at = a; rows_at = b; limit = t.limit; kind = t.kind }) e₁ e₂
-      ∙ ap₂ {C = Trailer} (λ (x y : ℕ). record { n = t.n; rows = t.rows; guessed = t.guessed; readings_at = x; rows_at = y; limit = t.limit; kind = t.kind }) e₃ e₄
+  same_trailer t n k a b e₁ e₂ e₃ e₄ = rw (e₁, e₂, e₃, e₄)
 
   trailer_bytes_lem : (t : Trailer) → Ok t ≡ trailer_in bs → trailer_bytes t ≡ drop (trailer_start bs) bs
   trailer_bytes_lem t e =

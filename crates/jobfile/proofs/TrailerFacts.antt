@@ -43,19 +43,19 @@ module _ (xs : List ℕ) where
 
   laid_parts : (t u : Trailer) (b : Bool) → Ok t ≡ cond b (Ok u) (Err Layout) → (b ≡ true) × (t ≡ u)
   laid_parts t u true e = (refl, cc)
-  laid_parts t u false e = let z : ◌≡◌ {A = ℕ} 0 1 = cc in absurd (omega arith)
+  laid_parts t u false e = absurd (cc)
 
   in_parts : (t : Trailer) (b : Bool) (o : Option Trailer) → Ok t ≡ cond b (laid_out (trailer_start xs) o) (Err Form) → (b ≡ true) × (o ≡ Some t) × (is_laid_out t (trailer_start xs) ≡ true)
-  in_parts t false o e = let z : ◌≡◌ {A = ℕ} 0 1 = cc in absurd (omega arith)
-  in_parts t true None e = let z : ◌≡◌ {A = ℕ} 0 1 = cc in absurd (omega arith)
+  in_parts t false o e = absurd (cc)
+  in_parts t true None e = absurd (cc)
   in_parts t true (Some u) e = let p = laid_parts t u (is_laid_out u (trailer_start xs)) e in (refl, ap Some (sym p.1), ap (λ (v : Trailer). is_laid_out v (trailer_start xs)) p.1 ∙ p.0)
 
   checked_parts : (t u : Trailer) (b : Bool) → cond b (Some u) None ≡ Some t → (b ≡ true) × (t ≡ u)
   checked_parts t u true e = (refl, cc)
-  checked_parts t u false e = let z : ◌≡◌ {A = ℕ} 0 1 = cc in absurd (omega arith)
+  checked_parts t u false e = absurd (cc)
 
   kind_parts : (t : Trailer) (o : Option WeightKind) → trailer_of_kind xs o ≡ Some t → (o ≡ Some t.kind) × (t ≡ trailer_at xs (trailer_start xs) t.kind) × (is_good_trailer t ≡ true)
-  kind_parts t None e = let z : ◌≡◌ {A = ℕ} 0 1 = cc in absurd (omega arith)
+  kind_parts t None e = absurd (cc)
   kind_parts t (Some w) e =
       let p = checked_parts t (trailer_at xs (trailer_start xs) w) (is_good_trailer (trailer_at xs (trailer_start xs) w)) e in
       let k : t.kind ≡ w = ap (λ (v : Trailer). v.kind) p.1 in

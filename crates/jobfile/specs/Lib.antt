@@ -6,6 +6,7 @@ pub mod RowPlaces
 pub mod Trailers
 pub mod Jobs
 pub mod Files
+pub mod SectionsRead
 pub mod Written
 pub mod JobFaults
 pub mod Writes

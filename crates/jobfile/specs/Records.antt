@@ -5,6 +5,8 @@ use Rattle.frames.specs.Cells.{is_good}
 use Rattle.frames.specs.declared.readings.Reading.{Reading}
 use Rattle.frames.specs.declared.readings.Reading.TheVariants.{Dropout, Single, Pair}
 use Rattle.jobfile.specs.declared.records.ReadingFault.{ReadingFault}
+use Rattle.jobfile.specs.declared.records.RecordKind.{RecordKind}
+use Rattle.jobfile.specs.declared.records.RecordKind.TheVariants.{Dropout as DropoutRecord, Single as SingleRecord, Pair as PairRecord}
 use Rattle.jobfile.specs.declared.records.ReadingFault.TheVariants.{Kind, Spare, Level}
 
 -- the number of the four bytes from a place on, the least byte first
@@ -15,7 +17,17 @@ pattern bytes at = slice_index bytes at + slice_index bytes (at + 1) * 256 + sli
 abbrev pub four_bytes : ℕ → List ℕ
 four_bytes n = (n % 256) ∷ (n / 256 % 256) ∷ (n / 65536 % 256) ∷ (n / 16777216 % 256) ∷ []
 
--- the record of a kind and two patterns
+-- the kind that a byte stands for
+abbrev pub record_kind : ℕ → Option RecordKind
+record_kind byte = cond (byte == 0) (Some DropoutRecord) (cond (byte == 1) (Some SingleRecord) (cond (byte == 2) (Some PairRecord) None))
+
+-- the byte of a kind
+abbrev pub record_byte : RecordKind → ℕ
+record_byte DropoutRecord = 0
+record_byte SingleRecord = 1
+record_byte PairRecord = 2
+
+-- the record of a kind's byte and two patterns
 abbrev pub record_of_parts : ℕ → ℕ → ℕ → List ℕ
 record_of_parts kind left right = kind ∷ four_bytes left ++ four_bytes right
 

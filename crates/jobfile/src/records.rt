@@ -1,20 +1,14 @@
 // Readings as records of nine bytes: a kind, and two patterns of floats, the least byte first.
-ghost use Rattle.std.specs.Prelude.{◌≡◌, ◌≤◌, IfOk, if◌then◌else◌, Some, Ok, Err, from_bits, to_bits};
+ghost use Rattle.std.specs.Prelude.{◌≡◌, IfOk, if◌then◌else◌, Some, Ok, Err, ◌==◌, from_bits, ok_or, to_bits};
 ghost use Rattle.std.specs.Float.{binary32};
 ghost use Rattle.frames.specs.Cells.{is_good};
 ghost use Rattle.jobfile.specs.Causes.{cause_text};
-ghost use Rattle.jobfile.specs.Records.{pattern, record_of_parts, record_of, checked_by, reading_of_parts, reading_of, record_at};
+ghost use Rattle.jobfile.specs.Records.{record_kind, record_byte, record_of_parts, record_of, reading_of_parts, reading_of, record_at};
+ghost use Rattle.jobfile.specs.declared.records.ReadingFault.TheVariants.{Kind};
 
 use frames::readings::{Levels, Reading};
 use std::fmt;
 use std::num::{f32_from_bits_with_nan, f32_to_bits_with_nan};
-
-// The kinds of records.
-const DROPOUT: u8 = 0;
-
-const SINGLE: u8 = 1;
-
-const PAIR: u8 = 2;
 
 // Why a record gives no reading.
 #[derive(Clone, Copy, Debug, PartialEq, Eq)]
@@ -36,24 +30,48 @@ impl fmt::Display for ReadingFault {
     }
 }
 
-// The four bytes from `at` on as a number, the least byte first.
-fn pattern_at(record: &[u8; 9], at: usize) -> u32
-    requires { at ≤ 5 }
-    ensures { result ≡ pattern «record».now at }
-{
-    u32::from_le_bytes([record[at], record[at + 1], record[at + 2], record[at + 3]])
+// The kind of a record, which its first byte tells.
+#[derive(Clone, Copy)]
+pub(crate) enum RecordKind {
+    Dropout,
+    Single,
+    Pair,
 }
 
-// The reading, if its unused patterns are zero and its levels may be read.
-fn checked(reading: Reading, unused_is_zero: bool) -> Result<Reading, ReadingFault>
-    ensures { result ≡ checked_by unused_is_zero reading }
+impl TryFrom<u8> for RecordKind {
+    type Error = ReadingFault;
+
+    ghost try_from_gives = { λ byte r. r ≡ ok_or (record_kind byte) Kind };
+
+    fn try_from(byte: u8) -> Result<RecordKind, ReadingFault> {
+        match byte {
+            0 => Ok(RecordKind::Dropout),
+            1 => Ok(RecordKind::Single),
+            2 => Ok(RecordKind::Pair),
+            _ => Err(ReadingFault::Kind),
+        }
+    }
+}
+
+// A pattern that a record of its kind does not use is zero.
+fn spare(pattern: u32) -> Result<(), ReadingFault>
+    ensures { result ≡ (if pattern == 0 then Ok tt else Err ReadingFault.Spare) }
 {
-    if !unused_is_zero {
-        Err(ReadingFault::Spare)
-    } else if !reading.is_good() {
-        Err(ReadingFault::Level)
+    if pattern == 0 {
+        Ok(())
     } else {
+        Err(ReadingFault::Spare)
+    }
+}
+
+// A reading whose levels may be read.
+fn good(reading: Reading) -> Result<Reading, ReadingFault>
+    ensures { result ≡ (if is_good reading then Ok reading else Err ReadingFault.Level) }
+{
+    if reading.is_good() {
         Ok(reading)
+    } else {
+        Err(ReadingFault::Level)
     }
 }
 
@@ -61,17 +79,20 @@ fn checked(reading: Reading, unused_is_zero: bool) -> Result<Reading, ReadingFau
 fn reading_of_parts(kind: u8, left: u32, right: u32) -> Result<Reading, ReadingFault>
     ensures { result ≡ reading_of_parts kind left right }
 {
-    match kind {
-        DROPOUT => checked(Reading::Dropout, left == 0 && right == 0),
-        SINGLE => checked(Reading::Single(f32_from_bits_with_nan(left)), right == 0),
-        PAIR => checked(
-            Reading::Pair(Levels {
-                left: f32_from_bits_with_nan(left),
-                right: f32_from_bits_with_nan(right),
-            }),
-            true,
-        ),
-        _ => Err(ReadingFault::Kind),
+    match RecordKind::try_from(kind)? {
+        RecordKind::Dropout => {
+            spare(left)?;
+            spare(right)?;
+            Ok(Reading::Dropout)
+        }
+        RecordKind::Single => {
+            spare(right)?;
+            good(Reading::Single(f32_from_bits_with_nan(left)))
+        }
+        RecordKind::Pair => good(Reading::Pair(Levels {
+            left: f32_from_bits_with_nan(left),
+            right: f32_from_bits_with_nan(right),
+        })),
     }
 }
 
@@ -80,16 +101,21 @@ pub fn read_record(record: &[u8; 9]) -> Result<Reading, ReadingFault>
     ensures value { result ≡ reading_of «record».now }
     ensures back { IfOk result (λ reading. record_of reading ≡ «record».now) }
 {
-    reading_of_parts(record[0], pattern_at(record, 1), pattern_at(record, 5))
+    let [kind, a, b, c, d, e, f, g, h] = *record;
+    reading_of_parts(
+        kind,
+        u32::from_le_bytes([a, b, c, d]),
+        u32::from_le_bytes([e, f, g, h]),
+    )
 }
 
 // The record of a kind and two patterns.
-fn record_of_parts(kind: u8, left: u32, right: u32) -> [u8; 9]
-    ensures { result ≡ record_of_parts kind left right }
+fn record_of_parts(kind: RecordKind, left: u32, right: u32) -> [u8; 9]
+    ensures { result ≡ record_of_parts (record_byte kind) left right }
 {
     let [a, b, c, d] = left.to_le_bytes();
     let [e, f, g, h] = right.to_le_bytes();
-    [kind, a, b, c, d, e, f, g, h]
+    [kind as u8, a, b, c, d, e, f, g, h]
 }
 
 // The pattern of a level.
@@ -105,13 +131,14 @@ pub fn write_record(reading: Reading) -> Result<[u8; 9], ReadingFault>
     ensures value { result ≡ (if is_good reading then Ok (record_of reading) else Err ReadingFault.Level) }
     ensures back { IfOk result (λ bytes. reading_of bytes ≡ Ok reading) }
 {
-    if !reading.is_good() {
-        return Err(ReadingFault::Level);
-    }
-    let record = match reading {
-        Reading::Dropout => record_of_parts(DROPOUT, 0, 0),
-        Reading::Single(level) => record_of_parts(SINGLE, pattern_of(level), 0),
-        Reading::Pair(p) => record_of_parts(PAIR, pattern_of(p.left), pattern_of(p.right)),
+    let record = match good(reading)? {
+        Reading::Dropout => record_of_parts(RecordKind::Dropout, 0, 0),
+        Reading::Single(level) => record_of_parts(RecordKind::Single, pattern_of(level), 0),
+        Reading::Pair(levels) => record_of_parts(
+            RecordKind::Pair,
+            pattern_of(levels.left),
+            pattern_of(levels.right),
+        ),
     };
     Ok(record)
 }

@@ -1,51 +1,51 @@
 // Rows as 16 bytes: place i is bit i mod 8, counted from the lowest, of byte i div 8.
-ghost use Rattle.std.specs.Prelude.{◌≡◌, ◌+◌, ◌≤◌, true, length, take, drop};
-ghost use Rattle.frames.specs.Halves.{is_length};
+ghost use Rattle.std.specs.Prelude.{◌≡◌};
 ghost use Rattle.jobfile.specs.RowPlaces.{byte_places, packed, half_places, places_of, ends_before};
 
 use frames::bits::Bits;
 use frames::halves::Halves;
+use frames::length::Length;
 
-// The half whose places the eight bytes from `at` on hold.
-fn half_at(bytes: &[u8], at: usize) -> u64
-    requires { at + 8 ≤ length bytes.now }
-    ensures { half_places result ≡ byte_places (take 8 (drop at bytes.now)) }
+// The half whose places eight bytes hold.
+fn half_of(bytes: &[u8; 8]) -> u64
+    ensures { half_places result ≡ byte_places bytes.now }
 {
-    let held = [
-        bytes[at],
-        bytes[at + 1],
-        bytes[at + 2],
-        bytes[at + 3],
-        bytes[at + 4],
-        bytes[at + 5],
-        bytes[at + 6],
-        bytes[at + 7],
-    ];
-    u64::from_le_bytes(held).reverse_bits()
-}
-
-// The row whose places the 16 bytes from `at` on hold.
-pub(crate) fn halves_at(bytes: &[u8], at: usize) -> Halves
-    requires { at + 16 ≤ length bytes.now }
-    ensures { places_of result ≡ byte_places (take 16 (drop at bytes.now)) }
-{
-    Halves {
-        first: half_at(bytes, at),
-        second: half_at(bytes, at + 8),
-    }
+    u64::from_le_bytes(*bytes).reverse_bits()
 }
 
 // The eight bytes that hold the places of a half.
-pub(crate) fn half_bytes(half: u64) -> [u8; 8]
+fn half_bytes(half: u64) -> [u8; 8]
     ensures { result ≡ packed 8 (half_places half) }
 {
     half.reverse_bits().to_le_bytes()
 }
 
-// Whether a row has no mark at or past `len`.
-pub(crate) fn ends_before(len: usize, row: Halves) -> bool
-    requires { is_length len ≡ true }
-    ensures { result ≡ ends_before len (places_of row) }
+// The row whose places 16 bytes hold.
+pub(crate) fn row_of(bytes: &[u8; 16]) -> Halves
+    ensures { places_of result ≡ byte_places bytes.now }
 {
-    Bits::new(len, row).is_ok()
+    let (Some(first), Some(second)) = (bytes.first_chunk(), bytes.last_chunk()) else {
+        unreachable()
+    };
+    Halves {
+        first: half_of(first),
+        second: half_of(second),
+    }
+}
+
+// The 16 bytes that hold the places of a row.
+pub(crate) fn row_bytes(row: Halves) -> [u8; 16]
+    ensures { result ≡ packed 16 (places_of row) }
+{
+    let mut bytes = [0; 16];
+    bytes[..8].copy_from_slice(&half_bytes(row.first));
+    bytes[8..].copy_from_slice(&half_bytes(row.second));
+    bytes
+}
+
+// Whether a row has no mark at or past the length.
+pub(crate) fn ends_before(len: Length, row: Halves) -> bool
+    ensures { result ≡ ends_before len.places (places_of row) }
+{
+    Bits::new(usize::from(len), row).is_ok()
 }

@@ -14,3 +14,12 @@ pub(crate) struct Trailer {
     pub(crate) limit: u16,
     pub(crate) kind: WeightKind,
 }
+
+// The numbers of a job: how many readings and rows it has, with how many of the rows it guesses, and its limit.
+#[derive(Clone, Copy)]
+pub(crate) struct Numbers {
+    pub(crate) n: usize,
+    pub(crate) rows: usize,
+    pub(crate) guessed: usize,
+    pub(crate) limit: usize,
+}

@@ -1,107 +1,75 @@
 // Writing a job: its checks, and its bytes without gaps.
-ghost use Rattle.std.specs.Prelude.{◌≡◌, ◌+◌, ◌*◌, ◌≤◌, true, ◌++◌, map, length, take, drop, IfOk, None, Ok};
+ghost use Rattle.std.specs.Prelude.{◌≡◌, ◌+◌, ◌*◌, ◌≤◌, true, not, ◌++◌, length, position, take, drop, All, IfOk, None, Ok};
 ghost use Rattle.std.specs.Option.{option_map};
 ghost use Rattle.std.specs.Result.{result_err};
 ghost use Rattle.std.specs.List.{flat_map};
 ghost use Rattle.frames.specs.Cells.{is_good};
-ghost use Rattle.frames.specs.Firsts.{first_failing};
-ghost use Rattle.frames.specs.Halves.{is_length};
 ghost use Rattle.jobfile.specs.Files.{job_of};
 ghost use Rattle.jobfile.specs.Gathered.{with_meaning};
 ghost use Rattle.jobfile.specs.Jobs.{contents};
-ghost use Rattle.jobfile.specs.Records.{record_of, AllHeld};
-ghost use Rattle.jobfile.specs.RowPlaces.{packed, places_of};
+ghost use Rattle.jobfile.specs.Records.{AllHeld};
+ghost use Rattle.jobfile.specs.RowPlaces.{places_of, ends_before};
 ghost use Rattle.jobfile.specs.Trailers.{is_good_trailer};
 ghost use Rattle.jobfile.specs.JobFaults.{bad_reading_of, bad_row_of, section_fault_of, job_fault};
 ghost use Rattle.jobfile.specs.Pasted.{pasted};
 ghost use Rattle.jobfile.specs.Writes.{written_of, overwritten};
 ghost use Rattle.jobfile.specs.Written.{trailer_for, job_bytes};
 
+use crate::entries::Entry;
 use crate::faults::{BadReading, BadRow, FileFault, SectionFault};
 use crate::jobs::Job;
-use crate::records::{ReadingFault, write_record};
-use crate::rows::{ends_before, half_bytes};
-use crate::trailers::Trailer;
-use crate::trailers::ops::are_good;
+use crate::records::ReadingFault;
+use crate::rows::ends_before;
+use crate::trailers::{Numbers, Trailer};
 use frames::halves::Halves;
+use frames::length::Length;
 use frames::readings::Reading;
 
-// Whether each reading can be held by a record.
-fn check_readings(readings: &[Reading]) -> Result<(), BadReading>
-    requires { length readings.now ≤ 128 }
-    ensures { result_err result ≡ bad_reading_of readings.now }
+// The first reading that no record can hold.
+fn bad_reading(readings: &[Reading]) -> Option<usize>
+    ensures { result ≡ position (λ reading. not (is_good reading)) readings.now }
 {
-    for (index, reading) in readings.iter().enumerate() {
-        if !reading.is_good() {
-            return Err(BadReading {
-                cause: ReadingFault::Level,
-                index,
-                byte: 9 * index,
-            });
-        }
-    }
-    Ok(())
+    readings.iter().position(|reading| !reading.is_good())
 }
 
-// Whether each row is marked below n alone.
-fn check_rows(n: usize, rows: &[Halves]) -> Result<(), BadRow>
-    requires measured { is_length n ≡ true }
-    requires few { length rows.now ≤ 32 }
-    ensures { result_err result ≡ bad_row_of n (map places_of rows.now) }
+// The first row with a mark at or past the length.
+fn bad_row(len: Length, rows: &[Halves]) -> Option<usize>
+    ensures { result ≡ position (λ row. not (ends_before len.places (places_of row))) rows.now }
 {
-    for (index, row) in rows.iter().enumerate() {
-        if !ends_before(n, *row) {
-            return Err(BadRow {
-                index,
-                byte: 9 * n + 16 * index,
-            });
-        }
-    }
-    Ok(())
+    rows.iter().position(|row| !ends_before(len, *row))
 }
 
-// Whether both sections of a job can be written.
-fn check_sections(job: &Job) -> Result<(), SectionFault>
-    requires { is_good_trailer (trailer_for (contents job.now)) ≡ true }
+// Whether both sections of a job can be written, if its numbers are good.
+fn check_sections(len: Length, job: &Job) -> Result<(), SectionFault>
+    requires good { is_good_trailer (trailer_for (contents job.now)) ≡ true }
+    requires measured { len.places ≡ length (contents job.now).readings }
     ensures { option_map FileFault.Section (result_err result) ≡ section_fault_of (bad_reading_of (contents job.now).readings) (bad_row_of (length (contents job.now).readings) (contents job.now).rows) }
 {
-    check_readings(&job.readings)?;
-    check_rows(job.readings.len(), &job.rows)?;
-    Ok(())
-}
-
-// Whether a job has numbers that a job may have.
-fn has_good_numbers(job: &Job) -> bool
-    ensures { result ≡ is_good_trailer (trailer_for (contents job.now)) }
-{
-    are_good(job.readings.len(), job.rows.len(), job.guessed, job.limit)
-}
-
-// Whether a file can hold a job.
-fn check_job(job: &Job) -> Result<(), FileFault>
-    ensures { result_err result ≡ job_fault (contents job.now) }
-{
-    if !has_good_numbers(job) {
-        return Err(FileFault::Numbers);
+    if let Some(index) = bad_reading(&job.readings) {
+        return Err(SectionFault::Reading(BadReading {
+            cause: ReadingFault::Level,
+            index,
+            byte: 9 * index,
+        }));
     }
-    check_sections(job)?;
+    if let Some(index) = bad_row(len, &job.rows) {
+        return Err(SectionFault::Row(BadRow {
+            index,
+            byte: 9 * job.readings.len() + 16 * index,
+        }));
+    }
     Ok(())
 }
 
-// The trailer of a job that a file can hold.
-fn trailer_for(job: &Job) -> Trailer
-    requires { is_good_trailer (trailer_for (contents job.now)) ≡ true }
-    ensures { result ≡ trailer_for (contents job.now) }
+// The numbers of a job.
+fn numbers_of(job: &Job) -> Numbers
+    ensures { result ≡ record { n = length (contents job.now).readings; rows = length (contents job.now).rows; guessed = job.now.guessed; limit = job.now.limit } }
 {
-    let n = job.readings.len();
-    Trailer {
-        n: n as u16,
-        rows: job.rows.len() as u8,
-        guessed: job.guessed as u8,
-        readings_at: 0,
-        rows_at: 9 * n as u32,
-        limit: job.limit as u16,
-        kind: job.kind,
+    Numbers {
+        n: job.readings.len(),
+        rows: job.rows.len(),
+        guessed: job.guessed,
+        limit: job.limit,
     }
 }
 
@@ -113,52 +81,76 @@ fn put(out: &mut [u8], at: usize, piece: &[u8])
     out[at..at + piece.len()].copy_from_slice(piece);
 }
 
-// Puts the records of readings, which can all be held, at the start.
-fn put_readings(out: &mut [u8], readings: &[Reading])
-    requires space { 9 * length readings.now ≤ length out.old }
-    requires good { first_failing is_good readings.now ≡ None }
-    ensures bytes { out.new ≡ pasted 0 (flat_map record_of readings.now) out.old }
-    ensures held { AllHeld readings.now }
+// Puts entries one right after another, the first at a place. By index: no clause says what a slice ends as after
+// `chunks_exact_mut`, and a loop over `split_first_chunk_mut`, which was tried, ends with nothing proved of `out`.
+fn put_all<T: Entry<N>, const N: usize>(out: &mut [u8], at: usize, entries: &[T])
+    requires space { at + N * length entries.now ≤ length out.old }
+    requires held { All T.is_held entries.now }
+    ensures bytes { out.new ≡ pasted at (flat_map T.bytes entries.now) out.old }
+    ensures back { All T.is_read_back entries.now }
 {
-    for (index, reading) in readings.iter().enumerate() {
-        let Ok(record) = write_record(*reading) else {
-            unreachable()
+    for (index, entry) in entries.iter().enumerate() {
+        put(out, at + N * index, &entry.to_bytes());
+    }
+}
+
+// A job that a file can hold.
+#[derive(Clone, Copy)]
+struct Writable<'a> {
+    job: &'a Job,
+    ghost held: { job_fault (contents job.now) ≡ None },
+}
+
+impl<'a> Writable<'a> {
+    // The job, if a file can hold it, or else its first fault.
+    fn new(job: &'a Job) -> Result<Writable<'a>, FileFault>
+        ensures fault { result_err result ≡ job_fault (contents job.now) }
+        ensures job { IfOk result (λ w. w.job.now ≡ job.now) }
+    {
+        let Ok(len) = Length::try_from(job.readings.len()) else {
+            return Err(FileFault::Numbers);
         };
-        put(out, 9 * index, &record);
+        if !numbers_of(job).are_good() {
+            return Err(FileFault::Numbers);
+        }
+        check_sections(len, job)?;
+        Ok(Writable { job })
     }
-}
 
-// Puts the bytes of rows at a place.
-fn put_rows(out: &mut [u8], at: usize, rows: &[Halves])
-    requires { at + 16 * length rows.now ≤ length out.old }
-    ensures { out.new ≡ pasted at (flat_map (packed 16) (map places_of rows.now)) out.old }
-{
-    for (index, row) in rows.iter().enumerate() {
-        let byte = at + 16 * index;
-        put(out, byte, &half_bytes(row.first));
-        put(out, byte + 8, &half_bytes(row.second));
+    // Its trailer.
+    fn trailer(&self) -> Trailer
+        ensures { result ≡ trailer_for (contents self.now.job.now) }
+    {
+        let n = self.job.readings.len();
+        Trailer {
+            n: n as u16,
+            rows: self.job.rows.len() as u8,
+            guessed: self.job.guessed as u8,
+            readings_at: 0,
+            rows_at: 9 * n as u32,
+            limit: self.job.limit as u16,
+            kind: self.job.kind,
+        }
     }
-}
 
-// How many bytes the sections have of a job that a file can hold.
-fn sections_len(job: &Job) -> usize
-    requires { job_fault (contents job.now) ≡ None }
-    ensures value { result + 16 ≡ length (job_bytes (contents job.now)) }
-    ensures small { result ≤ 1664 }
-{
-    9 * job.readings.len() + 16 * job.rows.len()
-}
+    // How many bytes its sections have.
+    fn sections_len(&self) -> usize
+        ensures value { result + 16 ≡ length (job_bytes (contents self.now.job.now)) }
+        ensures small { result ≤ 1664 }
+    {
+        9 * self.job.readings.len() + 16 * self.job.rows.len()
+    }
 
-// Puts the file of a job that a file can hold at the start.
-fn put_job(job: &Job, out: &mut [u8])
-    requires good { job_fault (contents job.now) ≡ None }
-    requires space { length (job_bytes (contents job.now)) ≤ length out.old }
-    ensures bytes { out.new ≡ job_bytes (contents job.now) ++ drop (length (job_bytes (contents job.now))) out.old }
-    ensures held { AllHeld (contents job.now).readings }
-{
-    put_readings(out, &job.readings);
-    put_rows(out, 9 * job.readings.len(), &job.rows);
-    put(out, sections_len(job), &trailer_for(job).to_bytes());
+    // Puts its file at the start.
+    fn put(&self, out: &mut [u8])
+        requires { length (job_bytes (contents self.now.job.now)) ≤ length out.old }
+        ensures bytes { out.new ≡ job_bytes (contents self.now.job.now) ++ drop (length (job_bytes (contents self.now.job.now))) out.old }
+        ensures held { AllHeld (contents self.now.job.now).readings }
+    {
+        put_all(out, 0, &self.job.readings);
+        put_all(out, 9 * self.job.readings.len(), &self.job.rows);
+        put(out, self.sections_len(), &<[u8; 16]>::from(self.trailer()));
+    }
 }
 
 // Writes the file of a job, if a file can hold the job and there is room, and says how many bytes it has.
@@ -167,11 +159,11 @@ pub fn write(job: &Job, out: &mut [u8]) -> Result<usize, FileFault>
     ensures bytes { out.new ≡ overwritten (written_of (contents job.now) (length out.old)) out.old }
     ensures back { IfOk result (λ size. job_of (take size out.new) ≡ Ok (contents job.now)) }
 {
-    check_job(job)?;
-    let size = sections_len(job) + 16;
+    let writable = Writable::new(job)?;
+    let size = writable.sections_len() + 16;
     if out.len() < size {
         return Err(FileFault::Room);
     }
-    put_job(job, out);
+    writable.put(out);
     Ok(size)
 }

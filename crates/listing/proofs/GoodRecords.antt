@@ -1,11 +1,11 @@
 -- What is read of records is good.
-use Rattle.std.proofs.Common.{◌≡◌, ℕ, zero, suc, ◌+◌, ◌*◌, ◌/◌, ◌%◌, Bool, true, false, cond, ◌&&◌, eqb, leb, List, [], ◌∷◌, ◌++◌, map, length, take, drop, IfOk, Some, None, Ok, Err, Option, Result, refl, ap, ◌∙◌, add-one, arith, length-append}
-use Rattle.std.proofs.lemmas.Bool.{and_parts, leb-true}
+use Rattle.std.proofs.Common.{◌≡◌, ℕ, zero, suc, ◌+◌, ◌*◌, ◌/◌, ◌%◌, Bool, true, false, cond, ◌&&◌, eqb, List, [], ◌∷◌, ◌++◌, map, length, take, drop, IfOk, Some, None, Ok, Err, Option, Result, refl, ap, ◌∙◌, add-one, length-append}
+use Rattle.std.proofs.lemmas.Bool.{cond-true}
 use Rattle.std.specs.Option.{option_map}
-use Rattle.frames.proofs.Packing.{frame_good}
 use Rattle.frames.specs.Cells.{is_good}
+use Rattle.frames.specs.Faults.{plain}
 use Rattle.frames.specs.Firsts.{first_failing}
-use Rattle.frames.specs.Frames.{bit_for, weight_for, frame_of}
+use Rattle.frames.specs.Frames.{bit_for, weight_for, frame_unless, frame_of}
 use Rattle.frames.specs.Halves.{is_length}
 use Rattle.frames.specs.declared.faults.Fault.TheVariants.{Length}
 use Rattle.frames.specs.declared.readings.Reading.{Reading}
@@ -24,7 +24,7 @@ reading_at_lem bytes i r e = go (reading_of (take 9 (drop (0 + 9 * i) bytes))) (
   where
     go : (o : Result Reading ReadingFault) → IfOk o (λ x. is_good x ≡ true) → Ok r ≡ located i (0 + 9 * i) o → is_good r ≡ true
     go (Ok x) g q = let s : r ≡ x = cc in ap is_good s ∙ g
-    go (Err c) g q = let z : ◌≡◌ {A = ℕ} 0 1 = cc in absurd (omega arith)
+    go (Err c) g q = absurd (cc)
 
 good_push : (xs : List Reading) (x : Reading) → first_failing is_good xs ≡ None → is_good x ≡ true → first_failing is_good (xs ++ x ∷ []) ≡ None
 good_push [] x h g = ap (λ (b : Bool). cond b None (Some 0)) g
@@ -32,7 +32,7 @@ good_push (y ∷ xs) x h g = go (is_good y) (first_failing is_good xs) (λ p. go
   where
     go : (b : Bool) (o : Option ℕ) → (o ≡ None → first_failing is_good (xs ++ x ∷ []) ≡ None) → cond b (option_map suc o) (Some 0) ≡ None → cond b (option_map suc (first_failing is_good (xs ++ x ∷ []))) (Some 0) ≡ None
     go true None f p = ap (option_map suc) (f refl)
-    go true (Some k) f p = let z : ◌≡◌ {A = ℕ} 0 1 = cc in absurd (omega arith)
+    go true (Some k) f p = absurd (cc)
     go false o f p = p
 
 -- k records give k good readings
@@ -47,12 +47,12 @@ all_read bytes (suc k) rs e = go (gathered (reading_at bytes 0) k) (reading_at b
           ap length s ∙ length-append ys (x ∷ []) ∙ ap (λ (m : ℕ). m + 1) n.0 ∙ add-one k,
           ap (first_failing is_good) s ∙ good_push ys x n.1 (f x refl),
         )
-    go (Ok ys) (Err y) h f q = let z : ◌≡◌ {A = ℕ} 0 1 = cc in absurd (omega arith)
-    go (Err y) o h f q = let z : ◌≡◌ {A = ℕ} 0 1 = cc in absurd (omega arith)
+    go (Ok ys) (Err y) h f q = absurd (cc)
+    go (Err y) o h f q = absurd (cc)
 
 of_readings_lem : (o : Result (List Reading) BadReading) (rs : List Reading) → Ok rs ≡ of_file (of_readings o) → Ok rs ≡ o
 of_readings_lem (Ok xs) rs e = cc
-of_readings_lem (Err x) rs e = let z : ◌≡◌ {A = ℕ} 0 1 = cc in absurd (omega arith)
+of_readings_lem (Err x) rs e = absurd (cc)
 
 -- the frame of what was read is not refused
 pub frame_read : (bytes : List ℕ) (rs : List Reading) → Ok rs ≡ records_of bytes → frame_of rs ≡ Ok (map bit_for rs, map weight_for rs)
@@ -61,10 +61,7 @@ frame_read bytes rs e = go (eqb (length bytes % 9) 0) (is_length (length bytes /
     go : (a b : Bool) → is_length (length bytes / 9) ≡ b → Ok rs ≡ cond (a && b) (of_file (readings_of bytes)) (Err (Frame Length)) → frame_of rs ≡ Ok (map bit_for rs, map weight_for rs)
     go true true l q =
         let n = all_read bytes (length bytes / 9) rs (of_readings_lem (gathered (reading_at bytes 0) (length bytes / 9)) rs q) in
-        let p = and_parts (leb 1 (length bytes / 9)) (leb (length bytes / 9) 128) l in
-        let low = leb-true 1 (length bytes / 9) p.0 in
-        let high = leb-true (length bytes / 9) 128 p.1 in
-        let m = n.0 in
-        frame_good rs (λ z. omega arith) (omega arith) n.1
-    go true false l q = let z : ◌≡◌ {A = ℕ} 0 1 = cc in absurd (omega arith)
-    go false b l q = let z : ◌≡◌ {A = ℕ} 0 1 = cc in absurd (omega arith)
+        cond-true (is_length (length rs)) (frame_unless (first_failing is_good rs) rs) (Err (plain 1)) (ap is_length n.0 ∙ l)
+        ∙ ap (λ (o : Option ℕ). frame_unless o rs) n.1
+    go true false l q = absurd (cc)
+    go false b l q = absurd (cc)

@@ -37,11 +37,8 @@ pub fn lines(heap: Global, bytes: &[u8]) -> Result<String, AllocError>
             format!(in heap; "hard {bits}\nweights{weights}\n")
         }
         Err(fault) => {
-            if fault.is_numbered() {
-                format!(in heap; "{fault}\n")
-            } else {
-                Err(AllocError)
-            }
+            fault.number().ok_or(AllocError)?;
+            format!(in heap; "{fault}\n")
         }
     }
 }

@@ -1,5 +1,5 @@
 // The frame that records give.
-ghost use Rattle.std.specs.Prelude.{◌≡◌, Some, vec_items};
+ghost use Rattle.std.specs.Prelude.{◌≡◌, is_some, Some, vec_items};
 ghost use Rattle.frames.specs.Frames.{held};
 ghost use Rattle.listing.specs.Records.{records_of, cells_of, is_numbered, Gives};
 ghost use Rattle.listing.specs.Shown.{list_fault_text};
@@ -7,6 +7,7 @@ ghost use Rattle.listing.specs.declared.reads.ListFault.TheVariants.{Frame as Of
 
 use frames::faults::Fault;
 use frames::framing::Frame;
+use frames::length::Length;
 use frames::readings::Reading;
 use jobfile::faults::FileFault;
 use jobfile::reading::read_readings;
@@ -23,13 +24,13 @@ pub enum ListFault {
 }
 
 impl ListFault {
-    // Whether the fault has a number: want of memory has none.
-    pub fn is_numbered(self) -> bool
-        ensures { result ≡ is_numbered self }
+    // The number of a fault; want of memory has none.
+    pub fn number(self) -> Option<u8>
+        ensures { is_some result ≡ is_numbered self }
     {
         match self {
-            ListFault::Frame(fault) => fault.number().is_some(),
-            ListFault::File(fault) => fault.number().is_some(),
+            ListFault::Frame(fault) => fault.number(),
+            ListFault::File(fault) => fault.number(),
         }
     }
 }
@@ -65,12 +66,11 @@ impl fmt::Display for ListFault {
 fn read_all(heap: Global, bytes: &[u8]) -> Result<Vec<Reading>, ListFault>
     ensures { Gives vec_items result (records_of bytes.now) }
 {
-    let count = bytes.len() / 9;
-    if bytes.len() % 9 != 0 || count == 0 || count > 128 {
+    if bytes.len() % 9 != 0 {
         return Err(ListFault::Frame(Fault::Length));
     }
-    let readings = read_readings(heap, bytes)?;
-    Ok(readings)
+    Length::try_from(bytes.len() / 9)?;
+    Ok(read_readings(heap, bytes)?)
 }
 
 // The frame of 1 to 128 records one after another.
@@ -78,6 +78,5 @@ pub fn read_frame(heap: Global, bytes: &[u8]) -> Result<Frame, ListFault>
     ensures { Gives held result (cells_of bytes.now) }
 {
     let readings = read_all(heap, bytes)?;
-    let frame = Frame::new(heap, readings.as_slice())?;
-    Ok(frame)
+    Ok(Frame::new(heap, &readings)?)
 }

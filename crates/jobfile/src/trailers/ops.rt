@@ -1,127 +1,107 @@
 // Reading a trailer, and what it may say.
-ghost use Rattle.std.specs.Prelude.{◌≡◌, ◌+◌, ◌≤◌, length};
-ghost use Rattle.jobfile.specs.Records.{pattern};
-ghost use Rattle.jobfile.specs.Trailers.{pair_at, good_numbers, kind_of, has_form, is_good_trailer, trailer_of, is_laid_out, trailer_in, trailer_bytes};
+ghost use Rattle.std.specs.Prelude.{◌≡◌, ok_or};
+ghost use Rattle.jobfile.specs.Trailers.{good_numbers, kind_of, kind_byte, is_good_trailer, trailer_of, is_laid_out, trailer_in, trailer_bytes};
+ghost use Rattle.jobfile.specs.declared.faults.FileFault.TheVariants.{Numbers};
 
 use crate::faults::FileFault;
 use crate::jobs::WeightKind;
-use crate::trailers::Trailer;
+use crate::trailers::{Numbers, Trailer};
 
 // The last byte of every file.
 const MARK: u8 = 0x5A;
 
-// The number of the two bytes from `at` on, the least byte first.
-fn pair_at(bytes: &[u8], at: usize) -> u16
-    requires { at + 2 ≤ length bytes.now }
-    ensures { result ≡ pair_at bytes.now at }
-{
-    u16::from_le_bytes([bytes[at], bytes[at + 1]])
-}
+// The most bytes that a file may have.
+const MOST: usize = 4096;
 
-// The number of the four bytes from `at` on, the least byte first.
-fn four_at(bytes: &[u8], at: usize) -> u32
-    requires { at + 4 ≤ length bytes.now }
-    ensures { result ≡ pattern bytes.now at }
-{
-    u32::from_le_bytes([bytes[at], bytes[at + 1], bytes[at + 2], bytes[at + 3]])
-}
+impl TryFrom<u8> for WeightKind {
+    type Error = FileFault;
 
-// The kind that a byte stands for.
-fn kind_of(byte: u8) -> Option<WeightKind>
-    ensures { result ≡ kind_of byte }
-{
-    match byte {
-        0 => Some(WeightKind::Level),
-        1 => Some(WeightKind::FlipsFirst),
-        _ => None,
+    ghost try_from_gives = { λ byte r. r ≡ ok_or (kind_of byte) Numbers };
+
+    fn try_from(byte: u8) -> Result<WeightKind, FileFault> {
+        match byte {
+            0 => Ok(WeightKind::Level),
+            1 => Ok(WeightKind::FlipsFirst),
+            _ => Err(FileFault::Numbers),
+        }
     }
 }
 
-// Whether a job may have these numbers.
-pub(crate) fn are_good(n: usize, rows: usize, guessed: usize, limit: usize) -> bool
-    ensures { result ≡ good_numbers n rows guessed limit }
-{
-    n >= 1
-        && n <= 128
-        && limit >= 1
-        && limit <= 1024
-        && rows <= 32
-        && guessed <= 6
-        && guessed <= rows
-        && n * limit <= 1024
-        && (n + 1) << guessed <= 1024
+impl From<WeightKind> for u8 {
+    ghost from_gives = { λ kind r. r ≡ kind_byte kind };
+
+    fn from(kind: WeightKind) -> u8 {
+        kind as u8
+    }
 }
 
-// Whether there are bytes enough and not too many, and the last is the mark.
-fn has_form(bytes: &[u8]) -> bool
-    ensures { result ≡ has_form bytes.now }
-{
-    let len = bytes.len();
-    len >= 16 && len <= 4096 && bytes[len - 1] == MARK
+impl Numbers {
+    // Whether a job may have these numbers.
+    pub(crate) fn are_good(&self) -> bool
+        ensures { result ≡ good_numbers self.now.n self.now.rows self.now.guessed self.now.limit }
+    {
+        (1..=128).contains(&self.n)
+            && (1..=1024).contains(&self.limit)
+            && self.rows <= 32
+            && self.guessed <= 6
+            && self.guessed <= self.rows
+            && self.n * self.limit <= 1024
+            && (self.n + 1) << self.guessed <= 1024
+    }
+}
+
+impl TryFrom<[u8; 16]> for Trailer {
+    type Error = FileFault;
+
+    ghost try_from_gives = { λ bytes r. r ≡ ok_or (trailer_of bytes) Numbers };
+
+    fn try_from(bytes: [u8; 16]) -> Result<Trailer, FileFault> {
+        let [a, b, rows, guessed, c, d, e, f, g, h, i, j, k, l, kind, _] = bytes;
+        let trailer = Trailer {
+            n: u16::from_le_bytes([a, b]),
+            rows,
+            guessed,
+            readings_at: u32::from_le_bytes([c, d, e, f]),
+            rows_at: u32::from_le_bytes([g, h, i, j]),
+            limit: u16::from_le_bytes([k, l]),
+            kind: WeightKind::try_from(kind)?,
+        };
+        if trailer.is_good() {
+            Ok(trailer)
+        } else {
+            Err(FileFault::Numbers)
+        }
+    }
+}
+
+impl From<Trailer> for [u8; 16] {
+    ghost from_gives = { λ trailer r. r ≡ trailer_bytes trailer };
+
+    fn from(trailer: Trailer) -> [u8; 16] {
+        let [a, b] = trailer.n.to_le_bytes();
+        let [c, d, e, f] = trailer.readings_at.to_le_bytes();
+        let [g, h, i, j] = trailer.rows_at.to_le_bytes();
+        let [k, l] = trailer.limit.to_le_bytes();
+        let Trailer { rows, guessed, .. } = trailer;
+        let kind = u8::from(trailer.kind);
+        [
+            a, b, rows, guessed, c, d, e, f, g, h, i, j, k, l, kind, MARK,
+        ]
+    }
 }
 
 impl Trailer {
-    // The trailer of a file, if its numbers are a job's.
-    fn of_file(bytes: &[u8]) -> Option<Trailer>
-        requires { 16 ≤ length bytes.now }
-        ensures { result ≡ trailer_of bytes.now }
-    {
-        let at = bytes.len() - 16;
-        let trailer = Trailer {
-            n: pair_at(bytes, at),
-            rows: bytes[at + 2],
-            guessed: bytes[at + 3],
-            readings_at: four_at(bytes, at + 4),
-            rows_at: four_at(bytes, at + 8),
-            limit: pair_at(bytes, at + 12),
-            kind: kind_of(bytes[at + 14])?,
-        };
-        if trailer.is_good() {
-            Some(trailer)
-        } else {
-            None
-        }
-    }
-
-    // The 16 bytes of the trailer.
-    pub(crate) fn to_bytes(self) -> [u8; 16]
-        ensures { result ≡ trailer_bytes self }
-    {
-        let [a, b] = self.n.to_le_bytes();
-        let [c, d, e, f] = self.readings_at.to_le_bytes();
-        let [g, h, i, j] = self.rows_at.to_le_bytes();
-        let [k, l] = self.limit.to_le_bytes();
-        let kind = self.kind as u8;
-        [
-            a,
-            b,
-            self.rows,
-            self.guessed,
-            c,
-            d,
-            e,
-            f,
-            g,
-            h,
-            i,
-            j,
-            k,
-            l,
-            kind,
-            MARK,
-        ]
-    }
-
     // Whether its numbers are a job's.
     fn is_good(&self) -> bool
         ensures { result ≡ is_good_trailer self.now }
     {
-        are_good(
-            usize::from(self.n),
-            usize::from(self.rows),
-            usize::from(self.guessed),
-            usize::from(self.limit),
-        )
+        let numbers = Numbers {
+            n: usize::from(self.n),
+            rows: usize::from(self.rows),
+            guessed: usize::from(self.guessed),
+            limit: usize::from(self.limit),
+        };
+        numbers.are_good()
     }
 
     // Whether no section has a byte at or past `end`, or in the other section.
@@ -142,17 +122,16 @@ impl Trailer {
 pub(crate) fn read_trailer(bytes: &[u8]) -> Result<Trailer, FileFault>
     ensures { result ≡ trailer_in bytes.now }
 {
-    if !has_form(bytes) {
+    let Some((sections, last)) = bytes.split_last_chunk::<16>() else {
+        return Err(FileFault::Form);
+    };
+    if bytes.len() > MOST || last[15] != MARK {
         return Err(FileFault::Form);
     }
-    match Trailer::of_file(bytes) {
-        None => Err(FileFault::Numbers),
-        Some(trailer) => {
-            if trailer.is_laid_out(bytes.len() - 16) {
-                Ok(trailer)
-            } else {
-                Err(FileFault::Layout)
-            }
-        }
+    let trailer = Trailer::try_from(*last)?;
+    if trailer.is_laid_out(sections.len()) {
+        Ok(trailer)
+    } else {
+        Err(FileFault::Layout)
     }
 }

@@ -9,6 +9,6 @@ use Rattle.jobfile.proofs.reading.read.Goals as goal
 pub returns : goal.returns
 returns c =
     let bs = c.args.bytes.now in
-    let r = c.read_sections.result in
-    let v = subst (λ (t : Result Trailer FileFault). Answers contents r (job_of_trailer bs t)) c.in_ok-trailer.ensures c.read_sections.ensures in
+    let r = c.job.result in
+    let v = subst (λ (t : Result Trailer FileFault). Answers contents r (job_of_trailer bs t)) c.in_ok-trailer.ensures c.job.ensures in
     record { value = v; back = answers_back bs (λ i. omega (arith, c.type_inv.bytes i)) r v }

@@ -6,8 +6,8 @@ use Rattle.frames.specs.Frames.{frame_of}
 use Rattle.listing.proofs.GoodRecords.{frame_read}
 use Rattle.listing.proofs.reads.read_frame.Goals as goal
 
-pub returns-in_err-frame : goal.returns-in_err-frame
-returns-in_err-frame c =
-    let p = err_from_is_err_and c.from_residual-in_err-frame.result c.from_residual-in_err-frame.ensures.1 in
-    let good = ap refused (ap frame_of c.as_slice.ensures.value ∙ frame_read c.args.bytes.now (vec_items c.in_ok-readings.readings) c.in_ok-readings.ensures) in
-    rw (p.1, p.2) (λ z. absurd (false≢true (sym (ap is_some (c.in_err-frame.ensures.value ∙ good)) ∙ z)))
+pub returns-in_err-new : goal.returns-in_err-new
+returns-in_err-new c =
+    let p = err_from_is_err_and c.from_residual-in_err-new.result c.from_residual-in_err-new.ensures.1 in
+    let good = ap refused (ap frame_of c.deref.ensures.value ∙ frame_read c.args.bytes.now (vec_items c.in_ok-readings.readings) c.in_ok-readings.ensures) in
+    rw (p.1, p.2) (λ z. absurd (false≢true (sym (ap is_some (c.in_err-new.ensures.value ∙ good)) ∙ z)))
