@@ -13,7 +13,7 @@ pub struct Both<A, B> {
 }
 
 impl<A: Test, B: Test> Test for Both<A, B> {
-    // 0 where the lengths differ: nothing is then accepted
+    // 0 where the lengths differ, as the trait says of a test that accepts nothing
     ghost size = { λ t. (if nat_eq (A.Test.size t.left) (B.Test.size t.right) then A.Test.size t.left else 0) };
 
     ghost accepted = { λ t w. A.Test.accepted t.left w && B.Test.accepted t.right w };

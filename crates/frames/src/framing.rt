@@ -11,7 +11,8 @@ use crate::readings::Reading;
 use crate::words::Word;
 use std::alloc::Global;
 
-// What a frame's readings say: the hard decision at each place, and what it costs to flip it.
+// What a frame's readings say: the hard decision at each place, and what it costs to flip it. The weights stand
+// beside the word, since rules take them without it.
 #[derive(Drop)]
 pub struct Frame {
     pub hard: Word,
@@ -35,6 +36,7 @@ impl Frame {
         if let Some(place) = first_bad(readings) {
             return Err(Fault::Level(place));
         }
+        // A second pass: nothing is allocated before all readings are known to be good.
         let mut value: u128 = 0;
         let mut weights = Vec::new(heap);
         for reading in readings {

@@ -6,6 +6,8 @@ ghost use Rattle.frames.specs.Words.{places};
 
 use crate::bits::Bits;
 
+// Three types over one: they tell words, patterns and rows apart, and what is said of bits alike stands on `Bits`.
+
 // The bits of a frame, as they were decided or as they were sent.
 #[derive(Clone, Copy, Debug, PartialEq, Eq)]
 pub struct Word {
@@ -33,7 +35,8 @@ impl Word {
         Some(Word { bits })
     }
 
-    // The pattern that leads from this word to the other; none where the lengths differ.
+    // The pattern that leads from this word to the other; none where the lengths differ. The bits are those of
+    // `flipped`, the type is not: one function for both would answer plain bits.
     pub fn between(&self, other: &Word) -> Option<Pattern>
         ensures { option_map (λ p. places p.bits) result ≡ flipped_by (places self.now.bits) (places other.now.bits) }
     {

@@ -21,7 +21,8 @@ fn is_held(number: u32, count: usize) -> bool
 }
 
 impl FieldTest {
-    // The test that `count` places from `first` on hold a number from `low` to `high`.
+    // The test that `count` places from `first` on hold a number from `low` to `high`. Five numbers, since a struct of
+    // them would be a field test that nobody has checked.
     pub fn new(
         len: usize,
         first: usize,
