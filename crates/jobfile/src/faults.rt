@@ -17,7 +17,8 @@ pub struct BadReading {
     pub byte: usize,
 }
 
-// A row with a mark at or past the length: which one it is, and the place of its first byte in the file.
+// A row with a mark at or past the length: which one it is, and the place of its first byte in the file. No struct
+// shares the two numbers with `BadReading`: it would be one more name in each definition and no line less.
 #[derive(Clone, Copy, Debug, PartialEq, Eq)]
 pub struct BadRow {
     pub index: usize,
@@ -91,6 +92,7 @@ impl From<SectionFault> for FileFault {
     }
 }
 
+// Two impls, as for each error enum over the library's two errors: only an impl of its own says what it gives.
 impl From<AllocError> for FileFault {
     ghost from_gives = { λ _ r. r ≡ Memory };
 

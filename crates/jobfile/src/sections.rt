@@ -44,7 +44,7 @@ pub(crate) struct Good<S: Section> {
 }
 
 impl<S: Section> Good<S> {
-    // The section, if it has no fault, or else its first.
+    // The section, if it has no fault, or else its first. By index, which the fault tells.
     pub(crate) fn new(section: S) -> Result<Good<S>, S::Fault>
         ensures { MatchResult result (λ g. g.section ≡ section) (λ e. gathered (S.gives section) (S.count section) ≡ Err e) }
     {
@@ -54,7 +54,8 @@ impl<S: Section> Good<S> {
         Ok(Good { section })
     }
 
-    // The entries, in order.
+    // The entries, in order. They are read again and not kept by `new`, which allocates nothing, so that a bad file has
+    // its fault also where memory is short.
     pub(crate) fn entries(&self, heap: Global) -> Result<Vec<S::Entry>, AllocError>
         ensures { IfOk result (λ v. gathered (S.gives self.now.section) (S.count self.now.section) ≡ Ok (map S.meaning v.items)) }
     {

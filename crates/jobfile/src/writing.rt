@@ -117,7 +117,7 @@ impl<'a> Writable<'a> {
         Ok(Writable { job })
     }
 
-    // Its trailer.
+    // Its trailer. The casts are of numbers that `held` bounds: `try_from` would answer errors that cannot be.
     fn trailer(&self) -> Trailer
         ensures { result ≡ trailer_for (contents self.now.job.now) }
     {

@@ -94,6 +94,7 @@ fn not_written(
 ) -> Result<(), Fail> {
     let mut out = vec![in heap; 7; space]?;
     assert_eq!(rt; write(job, &mut out), Err(fault), "{what}");
+    // one assertion for each byte
     for byte in &out {
         assert_eq!(rt; *byte, 7, "{what}");
     }

@@ -10,7 +10,7 @@ use std::process::ExitCode;
 // One byte more than a file may have, so that a longer one is seen to be too long.
 const MOST: u64 = 4097;
 
-// Room for any file.
+// Room for any file: the writer fills what it is lent, and allocates nothing.
 const ROOM: usize = 4096;
 
 // Rewrites the job on standard input.

@@ -50,10 +50,7 @@ fn the_first_bad_place_is_told(rt: HostRuntime) -> Result<(), Fail> {
 #[test]
 fn a_frame_has_its_hard_word_and_weights(rt: HostRuntime) -> Result<(), Fail> {
     let levels = [1.0, 1.0, -0.5, 1.0, 0.25, 1.0, 1.0];
-    let mut readings = [Reading::Dropout; 7];
-    for (reading, level) in readings.iter_mut().zip(levels.iter()) {
-        *reading = Reading::Single(*level);
-    }
+    let readings = levels.map(|level| Reading::Single(level));
     let frame = Frame::new(rt.alloc(), &readings)?;
     let hard = frame.hard.bits.to_string(rt.alloc())?;
     assert!(rt; hard.as_str() == "0010000");

@@ -104,7 +104,8 @@ impl Trailer {
         numbers.are_good()
     }
 
-    // Whether no section has a byte at or past `end`, or in the other section.
+    // Whether no section has a byte at or past `end`, or in the other section. By `as`, since no `From` goes from 32 bits
+    // to `usize`.
     fn is_laid_out(&self, end: usize) -> bool
         ensures { result ≡ is_laid_out self.now end }
     {
