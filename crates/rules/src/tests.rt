@@ -1,8 +1,10 @@
 // Small rules and stacks of them.
 use crate::burst::Burst;
 use crate::cap::Cap;
+use crate::cells::CellWeights;
 use crate::free::Free;
 use crate::rows::Rows;
+use crate::rows::few::FewRows;
 use crate::rule::{Rule, has_meaning, law_holds};
 use crate::weigh::weigh;
 use frames::bits::Bits;
@@ -136,5 +138,23 @@ fn bad_parts_are_refused(rt: HostRuntime) -> Result<(), Fail> {
     assert_eq!(rt; refused(heap, &[half(1); 6])?, Some(4));
     let free: Free<Level> = Free::new(heap, &[1, 2])?;
     assert!(rt; Cap::new(free, 8).is_err());
+    Ok(())
+}
+
+#[test]
+fn parts_are_made(rt: HostRuntime) -> Result<(), Fail> {
+    let heap = rt.alloc();
+    let cells = CellWeights::new(heap, &[7, 9])?;
+    assert_eq!(rt; cells.len(), 2);
+    assert_eq!(rt; cells.get(1), Some(9));
+    assert_eq!(rt; cells.get(2), None);
+    let word = Word {
+        bits: bits(4, 0b1010 << 60)?,
+    };
+    let rows = FewRows::new(heap, &word, &[half(0b1100 << 60), half(0b0110 << 60)])?;
+    assert_eq!(rt; rows.len(), 2);
+    let columns = rows.columns(heap, 4)?;
+    assert!(rt; columns.as_slice() == [1u8, 3, 2, 0].as_slice());
+    assert_eq!(rt; rows.parities(&word), 3);
     Ok(())
 }
