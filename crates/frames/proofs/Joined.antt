@@ -52,13 +52,6 @@ precedes_is m a b n c d M N A B C D u v =
     ∙ ap (λ (i : ℕ). ltb (joined a b % 2 ^ i) (joined c d % 2 ^ i)) (fill m M)
     ∙ ap₂ ltb (mod-eq_of_lt (joined_lt a b A B)) (mod-eq_of_lt (joined_lt c d C D)))
 
--- what the two branches of `precedes` compare
-pub second_less : (a b c d : ℕ) → a ≡ c → ltb b d ≡ ltb (joined a b) (joined c d)
-second_less a b c d e = grind (arith, nat_tests)
-
-pub first_less : (a b c d : ℕ) → (a ≡ c → ⊥) → b < 2 ^ 64 → d < 2 ^ 64 → ltb a c ≡ ltb (joined a b) (joined c d)
-first_less a b c d n B D = grind (arith, nat_tests)
-
 pub ones_small : (a : ℕ) → a < 2 ^ 64 → ones a ≤ 64
 ones_small a h = ones-le 64 a h
 

@@ -1,11 +1,8 @@
 -- Rows that are read out of a table.
-use Rattle.std.proofs.Common.{◌≡◌, ℕ, ◌-◌, ◌^◌, ◌<◌, ◌≤◌, Bool, true, false, cond, eqb, List, map, length, get_or, Some, None, Ok, Err, Option, sym, refl, ap, ◌∙◌, inl, inr, arith}
+use Rattle.std.proofs.Common.{◌≡◌, ℕ, ◌-◌, ◌^◌, Bool, true, false, cond, eqb, List, map, length, get_or, Some, None, Ok, Err, Option, sym, refl, ap, ◌∙◌, inl, inr, arith}
 use native.Mathlib.Nat.{zero-mod}
-use Rattle.std.proofs.lemmas.List.{length-map, get_or_past}
-use Rattle.std.proofs.lemmas.Option.{slice_get_past, slice_get-map, slice_get-get_or}
+use Rattle.std.proofs.lemmas.List.{get_or_past}
 use Rattle.std.proofs.lemmas.Bool.{cases_lt, cond-true}
-use Rattle.std.specs.Option.{option_map}
-use Rattle.std.specs.List.{slice_get}
 use Rattle.frames.specs.Faults.{plain, telling, refused}
 use Rattle.frames.specs.Firsts.{first_failing}
 use Rattle.frames.specs.Halves.{is_length}
@@ -13,13 +10,6 @@ use Rattle.frames.specs.Rows.{unset, holds_row, row_of, rows_unless, rows_of}
 use Rattle.frames.specs.Lengths.{length_of}
 use Rattle.frames.specs.declared.halves.Halves.{Halves}
 use Rattle.frames.proofs.Firsts.{each_passes}
-
-module _ (n : ℕ) (hs : List Halves) (i : ℕ) where
-  pub past_row : length hs ≤ i → None ≡ slice_get (map (row_of n) hs) i
-  past_row h = sym (slice_get_past (map (row_of n) hs) i (omega (arith, length-map hs (row_of n))))
-
-  pub same_row : (h : Halves) → i < length hs → h ≡ get_or hs i unset → Some (row_of n h) ≡ slice_get (map (row_of n) hs) i
-  same_row h l at = sym (slice_get-map (row_of n) hs i ∙ ap (option_map (row_of n)) (slice_get-get_or hs i unset l ∙ ap Some (sym at)))
 
 -- a table whose rows all pass, read at any index
 pub all_clean : (n : ℕ) (hs : List Halves) → first_failing (holds_row n) hs ≡ None → holds_row n unset ≡ true → (k : ℕ) → holds_row n (get_or hs k unset) ≡ true

@@ -1,5 +1,5 @@
 -- The numbers and the size of a job.
-use Rattle.std.proofs.Common.{◌≡◌, ℕ, ◌+◌, ◌*◌, ◌≤◌, Bool, true, false, cond, List, ◌++◌, length, drop, Some, None, vec_items, vec_len, Option, sym, refl, ap, ◌∙◌, ap₂, zero-add, arith}
+use Rattle.std.proofs.Common.{◌≡◌, ℕ, ◌+◌, ◌*◌, Bool, true, false, cond, List, ◌++◌, length, drop, Some, None, vec_items, vec_len, Option, sym, refl, ap, ◌∙◌, ap₂, zero-add, arith}
 use Rattle.std.proofs.lemmas.List.{append_assoc, length-append, length-map}
 use Rattle.std.specs.Option.{option_map}
 use Rattle.std.specs.List.{flat_map}
@@ -67,12 +67,6 @@ job_small c e = small (length c.readings) (length c.rows) c.guessed c.limit e
 
 -- the same of the vectors that hold it
 module _ (job : Job) (e : job_fault (contents job) ≡ None) where
-  pub few_readings : vec_len job.readings ≤ 128
-  few_readings = omega (arith, (job_small (contents job) (holdable (contents job) e).numbered).short, count_readings job)
-
-  pub few_rows : vec_len job.rows ≤ 32
-  few_rows = omega (arith, (job_small (contents job) (holdable (contents job) e).numbered).few, count_rows job)
-
   pub sections_size : 9 * vec_len job.readings + 16 * vec_len job.rows + 16 ≡ length (job_bytes (contents job))
   sections_size = omega (arith, file_size (contents job), count_readings job, count_rows job)
 

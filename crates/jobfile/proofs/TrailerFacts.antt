@@ -74,6 +74,3 @@ module _ (xs : List ℕ) where
 
     pub rows_fit : 0 < t.rows → t.rows_at + 16 * t.rows ≤ length xs
     rows_fit h = omega (arith, rows_inside t (trailer_start xs) (good_trailer t e).laid h)
-
-    pub length_fits : is_length t.n ≡ true
-    length_fits = (small t.n t.rows t.guessed t.limit (good_trailer t e).numbered).measured

@@ -54,10 +54,6 @@ readings_in bytes t = gathered (reading_at bytes t.readings_at) t.n
 abbrev pub rows_in : List ℕ → Trailer → Result (List (List Bool)) BadRow
 rows_in bytes t = gathered (row_at t.n bytes t.rows_at) t.rows
 
--- neither section has a fault
-abbrev pub BothGood : List ℕ → Trailer → Type 0
-BothGood bytes t = (is_ok (readings_in bytes t) ≡ true) × (is_ok (rows_in bytes t) ≡ true)
-
 -- the job of a file whose trailer is known
 abbrev pub job_of_trailer : List ℕ → Result Trailer FileFault → Result Contents FileFault
 job_of_trailer bytes (Err e) = Err e
