@@ -10,7 +10,8 @@ use frames::words::Word;
 use std::alloc::Global;
 use std::test::Fail;
 
-// The halves whose first five places are the five lowest digits of a number, the highest first.
+// The halves whose first five places are the five lowest digits of a number, the highest first. The tests of each
+// crate spell their small words themselves.
 fn five(number: u64) -> Halves {
     Halves {
         first: (number % 32) << 59,

@@ -33,6 +33,7 @@ impl Entry<9> for Reading {
     ghost is_read_back = { λ reading. reading_of (record_of reading) ≡ Ok reading };
 
     fn to_bytes(self) -> [u8; 9] {
+        // `write_record` refuses what `is_held` rules out
         let Ok(record) = write_record(self) else {
             unreachable()
         };

@@ -75,7 +75,7 @@ fn good(reading: Reading) -> Result<Reading, ReadingFault>
     }
 }
 
-// The reading of a kind and two patterns.
+// The reading of a kind and two patterns, which are no struct: they are the record.
 fn reading_of_parts(kind: u8, left: u32, right: u32) -> Result<Reading, ReadingFault>
     ensures { result ≡ reading_of_parts kind left right }
 {
@@ -158,7 +158,8 @@ mod tests {
     use std::process::Abort;
     use std::test::Fail;
 
-    // The record reads as the reading, and the reading is written as the record.
+    // The record reads as the reading, and the reading is written as the record. Each helper takes the handle and what
+    // is tried, which an assertion prints.
     fn both_ways(
         rt: &impl Abort,
         what: &str,

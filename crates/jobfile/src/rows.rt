@@ -24,6 +24,7 @@ fn half_bytes(half: u64) -> [u8; 8]
 pub(crate) fn row_of(bytes: &[u8; 16]) -> Halves
     ensures { places_of result ≡ byte_places bytes.now }
 {
+    // an array of 16 has both: a slice's method cannot see its length
     let (Some(first), Some(second)) = (bytes.first_chunk(), bytes.last_chunk()) else {
         unreachable()
     };

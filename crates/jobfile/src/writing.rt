@@ -73,7 +73,7 @@ fn numbers_of(job: &Job) -> Numbers
     }
 }
 
-// Puts bytes at a place.
+// Puts bytes at a place of a buffer that is lent: no allocation, and what stands around them stays.
 fn put(out: &mut [u8], at: usize, piece: &[u8])
     requires { at + length piece.now ≤ length out.old }
     ensures { out.new ≡ pasted at piece.now out.old }
@@ -153,7 +153,8 @@ impl<'a> Writable<'a> {
     }
 }
 
-// Writes the file of a job, if a file can hold the job and there is room, and says how many bytes it has.
+// Writes the file of a job, if a file can hold the job and there is room, and says how many bytes it has. The buffer is
+// lent, so that a write allocates nothing.
 pub fn write(job: &Job, out: &mut [u8]) -> Result<usize, FileFault>
     ensures value { result ≡ with_meaning length (written_of (contents job.now) (length out.old)) }
     ensures bytes { out.new ≡ overwritten (written_of (contents job.now) (length out.old)) out.old }

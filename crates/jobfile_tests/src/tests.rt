@@ -53,7 +53,7 @@ fn behind_zeros(heap: Global, count: usize, bytes: &[u8]) -> Result<Vec<u8>, All
     Ok(all)
 }
 
-// The file has the fault.
+// The file has the fault. Each helper takes the handle and what is tried, which an assertion prints.
 fn refused(
     rt: &impl Abort,
     what: &str,

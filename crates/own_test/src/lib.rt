@@ -41,7 +41,7 @@ mod tests {
     use frames::words::Word;
     use std::test::Fail;
 
-    // The word of three places that the three lowest digits of a number spell.
+    // As a user of the library would write it: the word of three places that the three lowest digits of a number spell.
     fn three(number: u64) -> Result<Word, Fail> {
         let halves = Halves {
             first: (number % 8) << 61,

@@ -98,6 +98,7 @@ impl<R: Rule, L: Layer> Rule for Layered<R, L> {
         let t = R.Rule.trellis r.below in
         layered_lawful n o (L.Layer.admits r.layer) keeps t h (R.Rule.admits r.below) (R.Rule.prices r.below) (R.Rule.meaning r.below (layered_below n o (L.Layer.admits r.layer) keeps t h)) };
 
+    // 0 where the lengths differ: a rule's length is a number, and one of length 0 has no further meaning.
     fn length(&self) -> usize {
         let below = self.below.length();
         match self.layer.own_length() {

@@ -40,7 +40,8 @@ pub trait Rule {
     fn is_end(&self, state: usize) -> bool
         ensures { HasMeaning (trellis self.now) → result ≡ (trellis self.now).ends state };
 
-    // The step at a place from a state, with a flip or without; none where it is barred.
+    // The step at a place from a state, with a flip or without; none where it is barred. The three are no struct, since
+    // a search tries the flips of one place and state, and the states of one place.
     fn step(&self, place: usize, state: usize, flip: bool) -> Option<Step<Self::Cost>>
         ensures { HasMeaning (trellis self.now) → answered Self.Cost.Weight.value result ≡ due Self.Cost.Weight.model ((trellis self.now).moves place state flip) };
 

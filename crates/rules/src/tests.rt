@@ -16,7 +16,7 @@ use std::test::Fail;
 use weights::flips_first::FlipsFirst;
 use weights::level::Level;
 
-// A row that lies in the first half.
+// A row that lies in the first half. The tests of each crate spell their small words themselves.
 fn half(first: u64) -> Halves {
     Halves { first, second: 0 }
 }

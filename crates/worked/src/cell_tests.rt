@@ -4,6 +4,7 @@ use std::num::f32_from_bits_with_nan;
 use std::process::Abort;
 use std::test::Fail;
 
+// Each helper takes the handle and what is tried, which an assertion prints.
 fn gives(
     rt: &impl Abort,
     what: &str,

@@ -7,7 +7,8 @@ use frames::tables::RowTable;
 use frames::words::{Pattern, Row, Word};
 use std::test::Fail;
 
-// The word of five places, place 0 first, that the five lowest digits of a number spell.
+// The word of five places, place 0 first, that the five lowest digits of a number spell. The tests of each crate spell
+// their small words themselves.
 fn five(number: u64) -> Result<Bits, Fail> {
     let halves = Halves {
         first: (number % 32) << 59,
