@@ -4,8 +4,8 @@
 use listing::lines::lines;
 use std::io::Read;
 
-// One byte more than 128 records have, so that too many are seen to be too many. Each program reads its own number of
-// bytes, in two lines that are the library's.
+// One byte more than 128 records have, so that too many are seen to be too many. A function for both programs would
+// need a crate for one call.
 const MOST: u64 = 1153;
 
 fn main(rt: HostRuntime) -> anyhow::Result<()> {

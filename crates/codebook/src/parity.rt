@@ -51,7 +51,7 @@ impl Test for RowTest {
         if word.bits.len() != self.table.row_len() {
             return false;
         }
-        // All rows are gone over, as a plain loop: leaving at the first odd one would change no answer.
+        // over all rows, and not to the first odd one alone
         let mut even = true;
         for row in &self.table {
             even &= !word.bits.parity(&row);

@@ -11,7 +11,7 @@ use std::alloc::Global;
 use std::test::Fail;
 
 // The halves whose first five places are the five lowest digits of a number, the highest first. The tests of each
-// crate spell their small words themselves.
+// crate spell their small words themselves: a helper for all would need a crate for tests alone.
 fn five(number: u64) -> Halves {
     Halves {
         first: (number % 32) << 59,

@@ -45,7 +45,7 @@ impl Fault {
     }
 }
 
-// Two impls, as for each error enum over the library's two errors: only an impl of its own says what it gives.
+// Written out, once for each of the library's two errors: a derive would not say what it gives.
 impl From<AllocError> for Fault {
     ghost from_gives = { λ _ r. r ≡ Memory };
 

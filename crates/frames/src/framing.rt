@@ -20,7 +20,7 @@ pub struct Frame {
 }
 
 // The first place whose reading is not good.
-fn first_bad(readings: &[Reading]) -> Option<usize>
+pub fn first_bad(readings: &[Reading]) -> Option<usize>
     ensures { result ≡ position (λ r. not (is_good r)) readings.now }
 {
     readings.iter().position(|reading| !reading.is_good())

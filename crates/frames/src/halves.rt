@@ -4,8 +4,8 @@ ghost use Rattle.frames.specs.Halves.{unmarked};
 
 use crate::length::Length;
 
-// 128 places without a length: place 0 is the highest bit of `first`, place 64 the highest of `second`. Two halves and
-// not one number or an array: each is a machine word, and neither is an index away.
+// 128 places without a length: place 0 is the highest bit of `first`, place 64 the highest of `second`. Two fields and
+// not a `u128` or an array: each is one machine word, reached with no shift and no index.
 #[derive(Clone, Copy, Debug, PartialEq, Eq, PartialOrd, Ord)]
 pub struct Halves {
     pub first: u64,

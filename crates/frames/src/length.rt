@@ -25,6 +25,7 @@ impl TryFrom<usize> for Length {
         if places == 0 || places > MOST {
             return Err(Fault::Length);
         }
+        // at most 128, so that `as` loses nothing
         Ok(Length {
             places: places as u8,
         })

@@ -92,7 +92,7 @@ impl From<SectionFault> for FileFault {
     }
 }
 
-// Two impls, as for each error enum over the library's two errors: only an impl of its own says what it gives.
+// Written out, once for each of the library's two errors: a derive would not say what it gives.
 impl From<AllocError> for FileFault {
     ghost from_gives = { λ _ r. r ≡ Memory };
 

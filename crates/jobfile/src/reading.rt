@@ -39,7 +39,7 @@ struct File<'a> {
 }
 
 impl<'a> File<'a> {
-    // Its readings. Their place is 32 bits wide in a file and is widened by `as`: no `From` goes to `usize`.
+    // Its readings. Their place is 32 bits wide in a file, and `usize` has no `From<u32>`.
     fn readings(&self) -> Readings<'a>
         ensures { readings_here result ≡ readings_in self.now.bytes.now self.now.trailer }
     {
@@ -49,8 +49,8 @@ impl<'a> File<'a> {
         Readings { records, at }
     }
 
-    // Its rows; where there are none, their place may be past the end. That the length is one follows from `told`, which
-    // the check sees here and `Length::try_from` cannot.
+    // Its rows; where there are none, their place may be past the end. That n is a length follows from `told`;
+    // the type of `try_from` does not say it.
     fn rows(&self) -> Rows<'a>
         ensures { rows_here result ≡ rows_in self.now.bytes.now self.now.trailer }
     {

@@ -38,6 +38,14 @@ pub(crate) enum RecordKind {
     Pair,
 }
 
+impl From<RecordKind> for u8 {
+    ghost from_gives = { λ kind r. r ≡ record_byte kind };
+
+    fn from(kind: RecordKind) -> u8 {
+        kind as u8
+    }
+}
+
 impl TryFrom<u8> for RecordKind {
     type Error = ReadingFault;
 
@@ -115,7 +123,7 @@ fn record_of_parts(kind: RecordKind, left: u32, right: u32) -> [u8; 9]
 {
     let [a, b, c, d] = left.to_le_bytes();
     let [e, f, g, h] = right.to_le_bytes();
-    [kind as u8, a, b, c, d, e, f, g, h]
+    [u8::from(kind), a, b, c, d, e, f, g, h]
 }
 
 // The pattern of a level.

@@ -24,7 +24,7 @@ fn half_bytes(half: u64) -> [u8; 8]
 pub(crate) fn row_of(bytes: &[u8; 16]) -> Halves
     ensures { places_of result ≡ byte_places bytes.now }
 {
-    // an array of 16 has both: a slice's method cannot see its length
+    // a slice's method answers an option, though 16 bytes have both parts
     let (Some(first), Some(second)) = (bytes.first_chunk(), bytes.last_chunk()) else {
         unreachable()
     };
@@ -44,7 +44,7 @@ pub(crate) fn row_bytes(row: Halves) -> [u8; 16]
     bytes
 }
 
-// Whether a row has no mark at or past the length.
+// Whether a row has no mark at or past the length: whether bits can be made of it.
 pub(crate) fn ends_before(len: Length, row: Halves) -> bool
     ensures { result ≡ ends_before len.places (places_of row) }
 {

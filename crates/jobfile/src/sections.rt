@@ -44,7 +44,7 @@ pub(crate) struct Good<S: Section> {
 }
 
 impl<S: Section> Good<S> {
-    // The section, if it has no fault, or else its first. By index, which the fault tells.
+    // The section, if it has no fault, or else its first fault. By index, which the fault tells.
     pub(crate) fn new(section: S) -> Result<Good<S>, S::Fault>
         ensures { MatchResult result (λ g. g.section ≡ section) (λ e. gathered (S.gives section) (S.count section) ≡ Err e) }
     {
@@ -70,7 +70,7 @@ impl<S: Section> Good<S> {
     }
 }
 
-// Records, of which the first stands at `at` in the file.
+// Records, of which the first stands at `at` in the file: a fault tells the place, which the slice does not know.
 #[derive(Clone, Copy)]
 pub(crate) struct Readings<'a> {
     pub(crate) records: &'a [[u8; 9]],
@@ -103,7 +103,7 @@ impl Section for Readings<'_> {
     }
 }
 
-// Rows of one length, of which the first stands at `at` in the file.
+// Rows of one length, of which the first stands at `at` in the file, which a fault tells.
 #[derive(Clone, Copy)]
 pub(crate) struct Rows<'a> {
     pub(crate) len: Length,

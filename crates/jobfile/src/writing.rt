@@ -21,16 +21,10 @@ use crate::jobs::Job;
 use crate::records::ReadingFault;
 use crate::rows::ends_before;
 use crate::trailers::{Numbers, Trailer};
+use frames::framing::first_bad;
 use frames::halves::Halves;
 use frames::length::Length;
 use frames::readings::Reading;
-
-// The first reading that no record can hold.
-fn bad_reading(readings: &[Reading]) -> Option<usize>
-    ensures { result ≡ position (λ reading. not (is_good reading)) readings.now }
-{
-    readings.iter().position(|reading| !reading.is_good())
-}
 
 // The first row with a mark at or past the length.
 fn bad_row(len: Length, rows: &[Halves]) -> Option<usize>
@@ -45,7 +39,7 @@ fn check_sections(len: Length, job: &Job) -> Result<(), SectionFault>
     requires measured { len.places ≡ length (contents job.now).readings }
     ensures { option_map FileFault.Section (result_err result) ≡ section_fault_of (bad_reading_of (contents job.now).readings) (bad_row_of (length (contents job.now).readings) (contents job.now).rows) }
 {
-    if let Some(index) = bad_reading(&job.readings) {
+    if let Some(index) = first_bad(&job.readings) {
         return Err(SectionFault::Reading(BadReading {
             cause: ReadingFault::Level,
             index,
@@ -107,9 +101,7 @@ impl<'a> Writable<'a> {
         ensures fault { result_err result ≡ job_fault (contents job.now) }
         ensures job { IfOk result (λ w. w.job.now ≡ job.now) }
     {
-        let Ok(len) = Length::try_from(job.readings.len()) else {
-            return Err(FileFault::Numbers);
-        };
+        let len = Length::try_from(job.readings.len()).map_err(|_| FileFault::Numbers)?;
         if !numbers_of(job).are_good() {
             return Err(FileFault::Numbers);
         }

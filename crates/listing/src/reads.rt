@@ -19,7 +19,7 @@ use std::fmt;
 pub enum ListFault {
     // the frame's: their number, or want of memory
     Frame(Fault),
-    // the file's: a record that gives no reading
+    // the file's: a record that gives no reading, or want of memory
     File(FileFault),
 }
 

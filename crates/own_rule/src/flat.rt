@@ -11,7 +11,7 @@ use rules::step::Step;
 use std::marker::PhantomData;
 use weights::weight::Weight;
 
-// One state; the price of a flip is a number below 65,536.
+// One state, as Free has; the price of a flip is a number below 65,536.
 #[derive(Drop)]
 pub struct Flat<W> {
     len: usize,

@@ -16,7 +16,8 @@ mod tests {
     use std::test::Fail;
     use weights::level::Level;
 
-    // As a user of the library would write it: what the pattern of three places weighs that the three lowest digits of a number spell.
+    // As a user of the library would write it: what the pattern of three places weighs that the three lowest digits of
+    // a number spell.
     fn three<R: Rule<Cost = Level>>(rule: &R, number: u64) -> Result<Option<u32>, Fail> {
         let halves = Halves {
             first: (number % 8) << 61,

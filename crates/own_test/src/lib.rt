@@ -1,4 +1,5 @@
-// A test of a word written outside the crate `codebook`: the struct, its size and what it accepts, the law, and two methods.
+// A test of a word written outside the crate `codebook`: the struct, its size and what it accepts, the law, and two
+// methods.
 #![tactic(auto)]
 
 ghost use Rattle.std.specs.Prelude.{◌%◌, ◌&&◌, length, ◌==◌};

@@ -33,7 +33,7 @@ pub trait Layer {
     fn is_end(&self, own_state: usize) -> bool
         ensures { result ≡ (own self.now).ends own_state };
 
-    // The own state after one more place; none where it is barred.
+    // The own state after one more place; none where it is barred. The three are no struct, as in `Rule::step`.
     fn turn(&self, place: usize, own_state: usize, flip: bool) -> Option<usize>
         ensures { IfSome (own_length self.now) (λ n. place < n) → result ≡ (own self.now).turn place own_state flip };
 

@@ -17,7 +17,8 @@ use std::alloc::Global;
 pub mod few;
 
 // The hard word and the rows. The own state is the parities so far, one bit for each row.
-// The columns and the goal, the hard word's parities, are packed so too: a step takes one exclusive or.
+// The columns, and the goal (the hard word's parities), are packed in the same way, so that a step takes one exclusive
+// or. They follow from the hard word and the rows, and are kept to save the work of each step.
 #[derive(Drop)]
 pub struct Parities {
     hard: Word,

@@ -16,7 +16,8 @@ use std::test::Fail;
 use weights::flips_first::FlipsFirst;
 use weights::level::Level;
 
-// A row that lies in the first half. The tests of each crate spell their small words themselves.
+// A row that lies in the first half. The tests of each crate spell their small words themselves: a helper
+// for all would need a crate for tests alone.
 fn half(first: u64) -> Halves {
     Halves { first, second: 0 }
 }
@@ -44,7 +45,8 @@ fn runs_are_charged_once(rt: HostRuntime) -> Result<(), Fail> {
     Ok(())
 }
 
-// What four flips weigh under a cap of 2, by counting: an odd number in 1100 and in 0110, 1 for each and 100 for each run.
+// What four flips weigh under a cap of 2, by counting: an odd number in 1100 and in 0110, 1 for each and 100 for each
+// run.
 fn counted(k: u64) -> Option<u32> {
     let odd = (k & 0b1100).count_ones() % 2 == 1 && (k & 0b0110).count_ones() % 2 == 1;
     let runs = (k & !(k >> 1)).count_ones();

@@ -5,11 +5,15 @@ use frames::readings::Reading;
 use std::process::Abort;
 use std::test::Fail;
 
-// The fault that the first `len` of 129 readings give, with a bad level at one place.
-fn fault(rt: &(impl Abort + AllocGlobal), len: usize, bad: usize) -> Result<Option<Fault>, Fail> {
+// The fault that the first `len` of 129 readings give, with a bad level at one place or at none.
+fn fault(
+    rt: &(impl Abort + AllocGlobal),
+    len: usize,
+    bad: Option<usize>,
+) -> Result<Option<Fault>, Fail> {
     let mut readings = [Reading::Single(-1.0); 129];
-    if bad < 129 {
-        readings[bad] = Reading::Single(128.0);
+    if let Some(place) = bad {
+        readings[place.min(128)] = Reading::Single(128.0);
     }
     match Frame::new(rt.alloc(), &readings[0..len.min(129)]) {
         Ok(frame) => {
@@ -25,12 +29,12 @@ fn fault(rt: &(impl Abort + AllocGlobal), len: usize, bad: usize) -> Result<Opti
 #[test]
 fn lengths_have_an_end(rt: HostRuntime) -> Result<(), Fail> {
     for len in [1usize, 64, 65, 128] {
-        assert_eq!(rt; fault(&rt, len, 129)?, None);
+        assert_eq!(rt; fault(&rt, len, None)?, None);
     }
-    assert_eq!(rt; fault(&rt, 0, 129)?, Some(Fault::Length));
-    assert_eq!(rt; fault(&rt, 129, 129)?, Some(Fault::Length));
+    assert_eq!(rt; fault(&rt, 0, None)?, Some(Fault::Length));
+    assert_eq!(rt; fault(&rt, 129, None)?, Some(Fault::Length));
     assert_eq!(rt;
-        fault(&rt, 129, 0)?,
+        fault(&rt, 129, Some(0))?,
         Some(Fault::Length),
         "the length comes first"
     );
@@ -39,9 +43,9 @@ fn lengths_have_an_end(rt: HostRuntime) -> Result<(), Fail> {
 
 #[test]
 fn the_first_bad_place_is_told(rt: HostRuntime) -> Result<(), Fail> {
-    assert_eq!(rt; fault(&rt, 128, 127)?, Some(Fault::Level(127)));
-    assert_eq!(rt; fault(&rt, 65, 64)?, Some(Fault::Level(64)));
-    assert_eq!(rt; fault(&rt, 64, 64)?, None);
+    assert_eq!(rt; fault(&rt, 128, Some(127))?, Some(Fault::Level(127)));
+    assert_eq!(rt; fault(&rt, 65, Some(64))?, Some(Fault::Level(64)));
+    assert_eq!(rt; fault(&rt, 64, Some(64))?, None);
     let text = Fault::Level(64).to_string(rt.alloc())?;
     assert!(rt; text.as_str() == "fault 2 level 64");
     Ok(())

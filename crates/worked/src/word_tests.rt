@@ -8,7 +8,7 @@ use frames::words::{Pattern, Row, Word};
 use std::test::Fail;
 
 // The word of five places, place 0 first, that the five lowest digits of a number spell. The tests of each crate spell
-// their small words themselves.
+// their small words themselves: a helper for all would need a crate for tests alone.
 fn five(number: u64) -> Result<Bits, Fail> {
     let halves = Halves {
         first: (number % 32) << 59,
@@ -60,19 +60,17 @@ fn pairs_of_five_places(rt: HostRuntime) -> Result<(), Fail> {
             let bits = five(a)?;
             let other = five(b)?;
             let mut odd = false;
-            let mut precedes = false;
-            let mut differ = false;
+            let mut first: Option<bool> = None;
             for place in 0..5 {
                 let x = place_of(a, place);
                 let y = place_of(b, place);
                 odd ^= x && y;
-                if !differ && x != y {
-                    differ = true;
-                    precedes = y;
+                if x != y {
+                    first = first.or(Some(y));
                 }
             }
             assert_eq!(rt; bits.parity(&Row { bits: other }), odd);
-            assert_eq!(rt; bits.precedes(&other), precedes);
+            assert_eq!(rt; bits.precedes(&other), first.unwrap_or(false));
             let word = Word { bits };
             let pattern = Pattern { bits: five(a ^ b)? };
             assert_eq!(rt; word.between(&Word { bits: other }), Some(pattern));

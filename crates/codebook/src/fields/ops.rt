@@ -54,7 +54,7 @@ impl FieldTest {
         ensures { result ≡ field_number self.now.first self.now.count (places word.now.bits) }
     {
         let mut number = 0;
-        for bit in word.bits.iter().skip(self.first).take(self.count) {
+        for bit in word.bits.iter_from(self.first).take(self.count) {
             number = 2 * number + u32::from(bit);
         }
         number

@@ -31,10 +31,14 @@ impl Bits {
     pub fn iter(&self) -> Iter
         ensures { drop result.place (places result.bits) ≡ places self.now }
     {
-        Iter {
-            bits: *self,
-            place: 0,
-        }
+        self.iter_from(0)
+    }
+
+    // Each place from `place` on; none past the length.
+    pub fn iter_from(&self, place: usize) -> Iter
+        ensures { drop result.place (places result.bits) ≡ drop place (places self.now) }
+    {
+        Iter { bits: *self, place }
     }
 }
 

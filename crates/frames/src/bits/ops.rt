@@ -33,7 +33,7 @@ impl Bits {
         Bits { len, halves }
     }
 
-    // The places that the `len` lowest digits of a number spell, the highest first.
+    // By `as`, since the upper and the lower 64 bits are meant: the places that the `len` lowest digits of a number spell, the highest first.
     pub(crate) fn spell(len: Length, value: u128) -> Bits
         requires { value < 2 ^ len.places }
         ensures { places result ≡ digits_of len.places value }

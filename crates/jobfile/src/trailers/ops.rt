@@ -104,8 +104,8 @@ impl Trailer {
         numbers.are_good()
     }
 
-    // Whether no section has a byte at or past `end`, or in the other section. By `as`, since no `From` goes from 32 bits
-    // to `usize`.
+    // Whether no section has a byte at or past `end`, or in the other section. By `as`, since
+    // `usize` has no `From<u32>`.
     fn is_laid_out(&self, end: usize) -> bool
         ensures { result ≡ is_laid_out self.now end }
     {
@@ -123,6 +123,7 @@ impl Trailer {
 pub(crate) fn read_trailer(bytes: &[u8]) -> Result<Trailer, FileFault>
     ensures { result ≡ trailer_in bytes.now }
 {
+    // by `else`: `ok_or` was tried, and its clauses no longer tell how the two parts make up the bytes
     let Some((sections, last)) = bytes.split_last_chunk::<16>() else {
         return Err(FileFault::Form);
     };

@@ -1,7 +1,6 @@
 use Rattle.std.proofs.Common.{ℕ, ◌+◌, ◌*◌, ◌^◌, ◌<◌, Bool, length, drop, sym, ap, ◌∙◌, subst, arith}
 use Rattle.std.proofs.lemmas.List.{length_push, map-id}
 use Rattle.std.proofs.lemmas.Iterator.{YieldsList-from_take}
-use Rattle.std.proofs.lemmas.Iterator.Adapters.{YieldsList-from_skip}
 use Rattle.std.proofs.lemmas.Iterator.Consumers.{YieldsList-at, YieldsList-from_first, YieldsList-end}
 use Rattle.frames.specs.Words.{places}
 use Rattle.frames.specs.declared.bits.iter.Iter.{Iter}
@@ -29,6 +28,6 @@ returns c =
     let s = c.args.self.now in
     let ps = places c.args.word.now.bits in
     let left = λ (i : Iter). drop i.place (places i.bits) in
-    let road = YieldsList-from_take s.count (YieldsList-at c.take-bit-items.ensures.source (YieldsList-from_skip s.first (YieldsList-at c.skip.ensures.source (YieldsList-from_first (λ (b : Bool). b) left ps c.iter.ensures)) c.skip.ensures.count)) c.take-bit-items.ensures.count in
+    let road = YieldsList-from_take s.count (YieldsList-at c.take-bit-items.ensures.source (YieldsList-from_first (λ (b : Bool). b) left (drop s.first ps) c.iter_from.ensures)) c.take-bit-items.ensures.count in
     let all = YieldsList-end (YieldsList-at c.into_iter-bit-iterator.ensures.into_iter_gives road) c.loop-bit.yielded _ c.loop-bit.yielded_by _ c.next.new.self c.in-None.is c.next.ensures.steps in
     c.loop-bit.invariant.1 ∙ ap (number_on 0) (sym (map-id c.loop-bit.yielded) ∙ all.0)
