@@ -1,5 +1,5 @@
 -- The number that a field holds, one place after another.
-use Rattle.std.proofs.Common.{◌≡◌, ℕ, ◌+◌, ◌*◌, ◌/◌, ◌^◌, ◌<◌, ◌≤◌, Bool, true, false, cond, eqb, ltb, List, [], ◌∷◌, ◌++◌, sym, refl, ap, ◌∙◌, inl, inr, pow-suc, add-one, arith, pow_pos, pow_mono}
+use Rattle.std.proofs.Common.{◌≡◌, ℕ, ◌+◌, ◌*◌, ◌/◌, ◌^◌, ◌<◌, ◌≤◌, Bool, true, false, cond, eqb, ltb, List, [], ◌∷◌, ◌++◌, sym, refl, ap, ◌∙◌, inl, inr, pow-suc, add-one, arith, pow_pos}
 use native.Mathlib.Nat.{div-eq_of_lt}
 use mir.Val.{bool_byte}
 use Rattle.std.proofs.lemmas.Nat.{le-div}
@@ -24,9 +24,6 @@ number_push xs b v e = ap (λ (n : ℕ). 2 * number_on 0 xs + n) e ∙ sym (numb
 
 pub room_more : (v b k : ℕ) → v < 2 ^ k → b ≤ 1 → 2 * v + b < 2 ^ (k + 1)
 room_more v b k h l = rw (add-one k, pow-suc 2 k) (omega arith)
-
-pub room_fits : (v b k : ℕ) → v < 2 ^ k → b ≤ 1 → k ≤ 15 → 2 * v + b < 2 ^ 32
-room_fits v b k h l q = let p : 2 ^ k ≤ 2 ^ 15 = pow_mono q in omega arith
 
 -- a bit as a number
 pub bit_is : (b : Bool) (v : ℕ) → v ≡ bool_byte b → (v ≡ cond b 1 0) × (v ≤ 1)

@@ -2,7 +2,7 @@
 use Rattle.std.proofs.Common.{◌≡◌, ℕ, suc, ◌+◌, ◌-◌, ◌*◌, ◌/◌, ◌%◌, ◌^◌, ◌<◌, ◌≤◌, true, ◌&&◌, eqb, ltb, length, Some, None, sym, ap, ◌∙◌, subst, ap₂, inl, inr, lt_of_le_of_lt, mod-eq_of_lt, arith, shl_lt, shr-shr}
 use native.Mathlib.Nat.{mod-one, mul-mod_left}
 use lib.Bits.{bit_and, bit_xor, xor_mod, xor_shr, xor_block, and_block, and_le_l, and_self, and_mask}
-use lib.Count.{ones, ones_cat, ones-le}
+use lib.Count.{ones, ones_cat}
 use lib.Pow.{mod-pow-add, mod-mod-pow, field, high, low, split, shl-shr, ones_split, ones_lt}
 use Rattle.std.proofs.lemmas.Option.{slice_get_past}
 use Rattle.std.proofs.lemmas.Bool.{eq-eqb, ne_eqb, eqb-true, cases_lt, cond-true, cond-false}
@@ -51,12 +51,6 @@ precedes_is m a b n c d M N A B C D u v =
     ∙ ap₂ (λ (x y : ℕ). ltb (x % 2 ^ (m + (128 - m))) (y % 2 ^ (m + (128 - m)))) (whole m a b u) (whole n c d v)
     ∙ ap (λ (i : ℕ). ltb (joined a b % 2 ^ i) (joined c d % 2 ^ i)) (fill m M)
     ∙ ap₂ ltb (mod-eq_of_lt (joined_lt a b A B)) (mod-eq_of_lt (joined_lt c d C D)))
-
-pub ones_small : (a : ℕ) → a < 2 ^ 64 → ones a ≤ 64
-ones_small a h = ones-le 64 a h
-
-pub and_small : (a b : ℕ) → a < 2 ^ 64 → ones (bit_and a b) ≤ 64
-and_small a b h = ones-le 64 (bit_and a b) (lt_of_le_of_lt (and_le_l a b) h)
 
 -- ---- flips
 

@@ -5,7 +5,7 @@ use Rattle.std.proofs.lemmas.Iterator.Consumers.{YieldsList-at, YieldsList-from_
 use Rattle.frames.specs.Words.{places}
 use Rattle.frames.specs.declared.bits.iter.Iter.{Iter}
 use Rattle.codebook.specs.Fields.{number_on}
-use Rattle.codebook.proofs.Numbers.{number_push, room_more, room_fits, bit_is}
+use Rattle.codebook.proofs.Numbers.{number_push, room_more, bit_is}
 use Rattle.codebook.proofs.fields.FieldTest.number.Goals as goal
 
 pub loop-bit-preserved : goal.loop-bit-preserved
@@ -16,12 +16,6 @@ loop-bit-preserved c =
       ap (λ (v : ℕ). 2 * v + c.from.result) c.loop-bit.invariant.1 ∙ number_push c.loop-bit.yielded c.in-Some.bit c.from.result b.0,
       omega (arith, l, c.in-Some.ensures.steps.1),
     )
-
-pub overflow_mul-number : goal.overflow_mul-number
-overflow_mul-number c = let p = room_fits c.loop-bit.number 0 (length c.loop-bit.yielded) c.loop-bit.invariant.0 (omega arith) (omega (arith, c.in-Some.ensures.steps.1)) in omega arith
-
-pub overflow_add-number : goal.overflow_add-number
-overflow_add-number c = let p = room_fits c.loop-bit.number c.from.result (length c.loop-bit.yielded) c.loop-bit.invariant.0 (bit_is c.in-Some.bit c.from.result c.from.ensures).1 (omega (arith, c.in-Some.ensures.steps.1)) in omega arith
 
 pub returns : goal.returns
 returns c =
