@@ -25,7 +25,7 @@ pub(crate) fn row_of(bytes: &[u8; 16]) -> Halves
     ensures { places_of result ≡ byte_places bytes.now }
 {
     // a slice's method answers an option, though 16 bytes have both parts
-    let (Some(first), Some(second)) = (bytes.first_chunk(), bytes.last_chunk()) else {
+    let (Some(first), Some(second)) = (bytes.first_chunk::<8>(), bytes.last_chunk::<8>()) else {
         unreachable()
     };
     Halves {
