@@ -40,17 +40,16 @@ fn check_sections(len: Length, job: &Job) -> Result<(), SectionFault>
     ensures { option_map FileFault.Section (result_err result) ≡ section_fault_of (bad_reading_of (contents job.now).readings) (bad_row_of (length (contents job.now).readings) (contents job.now).rows) }
 {
     if let Some(index) = first_bad(&job.readings) {
-        return Err(SectionFault::Reading(BadReading {
+        let fault = BadReading {
             cause: ReadingFault::Level,
             index,
             byte: 9 * index,
-        }));
+        };
+        return Err(fault.into());
     }
     if let Some(index) = bad_row(len, &job.rows) {
-        return Err(SectionFault::Row(BadRow {
-            index,
-            byte: 9 * job.readings.len() + 16 * index,
-        }));
+        let byte = 9 * job.readings.len() + 16 * index;
+        return Err(BadRow { index, byte }.into());
     }
     Ok(())
 }

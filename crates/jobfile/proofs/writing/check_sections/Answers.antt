@@ -5,6 +5,8 @@ use Rattle.frames.specs.Firsts.{first_failing}
 use Rattle.frames.specs.declared.halves.Halves.{Halves}
 use Rattle.frames.specs.declared.readings.Reading.{Reading}
 use Rattle.frames.proofs.Firsts.{found_first}
+use Rattle.jobfile.specs.declared.faults.FileFault.TheVariants.{Section}
+use Rattle.jobfile.specs.declared.faults.SectionFault.{SectionFault}
 use Rattle.jobfile.specs.RowPlaces.{places_of, ends_before}
 use Rattle.jobfile.proofs.FirstBad.{failing_map}
 use Rattle.jobfile.proofs.JobFacts.{count_readings, told, reading_told, rows_told}
@@ -23,7 +25,8 @@ pub returns-in-Some : goal.returns-in-Some
 returns-in-Some c =
     let job = c.args.job.now in
     let hs = vec_items job.readings in
-    reading_told hs (length hs) (map places_of (vec_items job.rows)) c.in-Some.index (heard _ hs (Some c.in-Some.index) c.deref.ensures.value c.in-Some.ensures)
+    ap (λ (f : SectionFault). Some (Section f)) c.into.ensures
+    ∙ reading_told hs (length hs) (map places_of (vec_items job.rows)) c.in-Some.index (heard _ hs (Some c.in-Some.index) c.deref.ensures.value c.in-Some.ensures)
 
 pub returns-in-Some-bad_row : goal.returns-in-Some-bad_row
 returns-in-Some-bad_row c =
@@ -32,7 +35,8 @@ returns-in-Some-bad_row c =
     let ms = map places_of (vec_items job.rows) in
     let k = c.in-Some-bad_row.index in
     let e = marked c.args.len.places (length hs) _ (vec_items job.rows) (Some k) c.requires.measured c.deref-2.ensures.value c.in-Some-bad_row.ensures in
-    ap (λ (n : ℕ). told hs n ms None (Some k)) (c.len.ensures ∙ count_readings job)
+    ap (λ (f : SectionFault). Some (Section f)) c.into-in-Some-bad_row.ensures
+    ∙ ap (λ (n : ℕ). told hs n ms None (Some k)) (c.len.ensures ∙ count_readings job)
     ∙ rows_told hs (length hs) ms (Some k) (heard _ hs None c.deref.ensures.value c.in_default.ensures) e
 
 pub returns : goal.returns
