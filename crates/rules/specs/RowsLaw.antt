@@ -1,5 +1,5 @@
 -- Rows keeps the law of a layer.
-use Rattle.std.specs.Prelude.{◌≡◌, ℕ, zero, suc, ◌+◌, ◌^◌, ◌<◌, Bool, true, false, cond, not, ◌&&◌, List, [], ◌∷◌, map, length, get_or, drop, Some, ◌==◌, bit_xor, nat_eq, slice_index_or, refl}
+use Rattle.std.specs.Prelude.{◌≡◌, ℕ, zero, suc, ◌+◌, ◌^◌, ◌<◌, Bool, true, false, cond, not, ◌&&◌, List, [], ◌∷◌, map, length, get_or, drop, Option, ◌==◌, bit_xor, nat_eq, slice_index_or, refl}
 use Rattle.std.specs.Bool.{beq}
 use Rattle.std.proofs.Common.{sym, ap, subst, ◌∙◌, arith}
 use Rattle.std.specs.Int.Bits.{xor_assoc, xor_zero_l, xor_zero_r}
@@ -68,5 +68,6 @@ module _ (table : List (List Bool)) (word : List Bool) where
   rows_alike : (bs : List Bool) → passes (rows_own table word) 0 0 bs ≡ alike table bs word
   rows_alike bs = rows_passes bs 0 0 ∙ ap (λ n. nat_eq n (parities word table)) (xor_zero_l (rest table 0 bs)) ∙ alike_is bs word table
 
-  pub rows_keep : Keeps (Some (length word)) (rows_own table word) (λ bs. alike table bs word)
-  rows_keep = record { closed = rows_closed; means = λ bs _. rows_alike bs }
+  -- with any length of its own, or none
+  pub rows_keep : (n : Option ℕ) → Keeps n (rows_own table word) (λ bs. alike table bs word)
+  rows_keep n = record { closed = rows_closed; means = λ bs _. rows_alike bs }

@@ -58,7 +58,7 @@ impl Layer for Parities {
 
     ghost admits = { λ l bs. alike (table_rows l.rows.table) bs (places l.hard.bits) };
 
-    ghost keeps = { λ l. rows_keep (table_rows l.rows.table) (places l.hard.bits) };
+    ghost keeps = { λ l. rows_keep (table_rows l.rows.table) (places l.hard.bits) (Some (length (places l.hard.bits))) };
 
     fn own_length(&self) -> Option<usize> {
         Some(self.hard.bits.len())
