@@ -124,8 +124,9 @@ impl<R: Rule, L: Layer> Rule for Layered<R, L> {
     }
 
     fn step(&self, place: usize, state: usize, flip: bool) -> Option<Step<R::Cost>> {
-        let below = self.below.step(place, self.layer.outer(state), flip);
-        let own = self.layer.turn(place, self.layer.inner(state), flip);
-        overlay(below, own, self.layer.factor())
+        // by `?` at once: carried on as options, the two cost a step of Rows over Free half as much again
+        let below = self.below.step(place, self.layer.outer(state), flip)?;
+        let own = self.layer.turn(place, self.layer.inner(state), flip)?;
+        overlay(Some(below), Some(own), self.layer.factor())
     }
 }
