@@ -104,7 +104,7 @@ fn reading_of_parts(kind: u8, left: u32, right: u32) -> Result<Reading, ReadingF
     }
 }
 
-// The reading of a record. Inlined, since as a call of its own it makes reading a section a third slower.
+// The reading of a record. Inlined, since as a call of its own it makes reading a section take half as long again.
 #[inline]
 pub fn read_record(record: &[u8; 9]) -> Result<Reading, ReadingFault>
     ensures value { result ≡ reading_of «record».now }
