@@ -124,7 +124,8 @@ impl<R: Rule, L: Layer> Rule for Layered<R, L> {
     }
 
     fn step(&self, place: usize, state: usize, flip: bool) -> Option<Step<R::Cost>> {
-        // by `?` at once: carried on as options, the two cost a step of Rows over Free half as much again
+        // by `?` at once: carried on as options, the two cost a step of Rows over Free half as much again, where the flip
+        // is known only when it runs
         let below = self.below.step(place, self.layer.outer(state), flip)?;
         let own = self.layer.turn(place, self.layer.inner(state), flip)?;
         overlay(Some(below), Some(own), self.layer.factor())
